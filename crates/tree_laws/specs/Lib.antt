@@ -1,0 +1,3 @@
+pub mod Ancestor
+pub mod Nca
+pub mod Size
