@@ -1,0 +1,36 @@
+-- The capacity of lent parts (01, "Capacity is 1 to 32,768 rows"; refusal 3).
+use mathlib.Core.Path.{_≡_}
+use mathlib.Core.Bool.{Bool, _&&_}
+use mathlib.Core.List.{List}
+use Prim.Native.Nat.{ℕ, _*_, _≤_}
+use lib.Dec.{leb, eqb}
+use lib.ListN.{length}
+use Rattle.laws.specs.Test.{Says, says-map, says-and, says-leb, says-eqb, pick}
+use Rattle.rows.specs.declared.Fit.{Fit}
+use Rattle.rows.specs.declared.Fit.the-variants.{Capacity, Misfit}
+use Rattle.rows.specs.Layout.{fieldStride, numberStride, entryStride}
+use Rattle.rows.specs.Row.{Parts}
+
+abbrev pub capacityLimit : ℕ
+capacityLimit = 32768
+
+-- the parts fit the capacity c
+pub record Fits (c : ℕ) (t : Parts) : Type 0 where
+  pub least : 1 ≤ c
+  pub most : c ≤ capacityLimit
+  pub levels : length (t .levels) ≡ c
+  pub fields : length (t .fields) ≡ c * fieldStride
+  pub numbers : length (t .numbers) ≡ c * numberStride
+  pub ancestors : length (t .ancestors) ≡ c * entryStride
+
+-- the same as a test
+unfoldable pub fits : ℕ → Parts → Bool
+fits c t =
+    leb 1 c &&
+    (leb c capacityLimit &&
+    (eqb (length (t .levels)) c &&
+    (eqb (length (t .fields)) (c * fieldStride) && (eqb (length (t .numbers)) (c * numberStride) && eqb (length (t .ancestors)) (c * entryStride)))))
+
+-- the capacity that the parts fit: the levels, one to a row, tell it
+unfoldable pub capacityOf : Parts → Fit
+capacityOf t = pick (fits (length (t .levels)) t) (Capacity (length (t .levels))) Misfit

@@ -1,0 +1,50 @@
+-- The places of a row's numbers in the lent parts: one number to each name, and no other file writes them.
+use Prim.Native.Nat.{ℕ}
+
+-- 16-bit fields of a row in `fields`, by their place in the row; the first eight are those that the row check reads
+abbrev pub parentPlace : ℕ
+parentPlace = 0
+
+abbrev pub firstPlace : ℕ
+firstPlace = 1
+
+abbrev pub lastPlace : ℕ
+lastPlace = 2
+
+abbrev pub nextPlace : ℕ
+nextPlace = 3
+
+abbrev pub upperPlace : ℕ
+upperPlace = 4
+
+abbrev pub pathPlace : ℕ
+pathPlace = 5
+
+abbrev pub sizePlace : ℕ
+sizePlace = 6
+
+abbrev pub setSizePlace : ℕ
+setSizePlace = 7
+
+abbrev pub depthPlace : ℕ
+depthPlace = 8
+
+abbrev pub labelPlace : ℕ
+labelPlace = 9
+
+abbrev pub fieldStride : ℕ
+fieldStride = 10
+
+-- 64-bit numbers of a row in `numbers`
+abbrev pub startPlace : ℕ
+startPlace = 0
+
+abbrev pub nextFreePlace : ℕ
+nextFreePlace = 1
+
+abbrev pub numberStride : ℕ
+numberStride = 2
+
+-- ancestor entries of a row in `ancestors`
+abbrev pub entryStride : ℕ
+entryStride = 122

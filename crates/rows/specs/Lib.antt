@@ -1,0 +1,5 @@
+pub mod Layout
+pub mod Row
+pub mod Capacity
+pub mod Table
+pub mod StoredTree
