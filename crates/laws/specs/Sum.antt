@@ -1,10 +1,12 @@
 -- Sums over the rows below a count.
 use mathlib.Core.Path.{_≡_, refl, ap, _∙_}
 use mathlib.Core.Bool.{Bool, true, false}
+use mathlib.Core.List.{List, [], _∷_}
 use mathlib.Core.Logic.{_≢_}
 use Prim.Native.Nat.{ℕ, zero, suc, _+_, _*_, _≤_, _<_, zero-le}
 use native.Mathlib.Decide.{ℕ-discrete}
 use native.Mathlib.Omega.{arith}
+use lib.ListN.{length, getD}
 use Rattle.laws.specs.Test.{bit}
 
 -- the sum of f over the rows below n
@@ -55,6 +57,20 @@ sum-two-le f (suc n) i j k l d = elim (ℕ-discrete i n) [
     | no b ↦ omega (arith, sum-two-le f n i j (omega arith) (omega arith) d)
   ]
 ]
+
+-- the first row taken from the front of a sum
+pub sum-front : (f : ℕ → ℕ) (n : ℕ) → sumTo f (suc n) ≡ f 0 + sumTo (λ j. f (suc j)) n
+sum-front f zero = refl
+sum-front f (suc n) = omega (arith, sum-front f n)
+
+-- the sum of f over the elements of a list
+abbrev pub sumOf : (ℕ → ℕ) → List ℕ → ℕ
+sumOf f [] = 0
+sumOf f (x ∷ xs) = f x + sumOf f xs
+
+pub sum-list : (f : ℕ → ℕ) (xs : List ℕ) → sumOf f xs ≡ sumTo (λ j. f (getD xs j 0)) (length xs)
+sum-list f [] = refl
+sum-list f (x ∷ xs) = omega (arith, sum-list f xs, sum-front (λ j. f (getD (x ∷ xs) j 0)) (length xs))
 
 -- how many rows below n pass a test
 abbrev pub countTo : (ℕ → Bool) → ℕ → ℕ
