@@ -6,3 +6,4 @@ pub mod Size
 pub mod SizeLaws
 pub mod Compressed
 pub mod CompressedLaws
+pub mod StoredFromCompressed

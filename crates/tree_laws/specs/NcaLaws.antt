@@ -3,7 +3,8 @@ use mathlib.Core.Path.{_≡_, refl, sym, _∙_}
 use mathlib.Core.Logic.{inl, inr, _≢_}
 use Prim.Native.Nat.{ℕ, _≤_, _<_}
 use Rattle.tree_laws.specs.Ancestor.{none, Anc, here, there, Forest}
-use Rattle.tree_laws.specs.AncestorLaws.{trans, cases, linear, parent-over, towards, climb, anc-in, anc-rank, no-loop, antisym, shallower-over, one-child, decAnc, root-of}
+use Rattle.tree_laws.specs.AncestorLaws.{trans, cases, linear, parent-over, towards, climb, anc-in, anc-rank, no-loop, antisym, shallower-over}
+use Rattle.tree_laws.specs.AncestorLaws.{one-child, decAnc, root-of}
 use Rattle.tree_laws.specs.Nca.{Kindred, Nca, Branch, itself, child, Characteristic}
 
 module _ {up : ℕ → ℕ} where
