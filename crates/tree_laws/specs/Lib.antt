@@ -7,3 +7,6 @@ pub mod SizeLaws
 pub mod Compressed
 pub mod CompressedLaws
 pub mod StoredFromCompressed
+pub mod Reroot
+pub mod RerootLaws
+pub mod PlainFromStored
