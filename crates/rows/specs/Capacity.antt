@@ -1,13 +1,12 @@
 -- The capacity of lent parts (01, "Capacity is 1 to 32,768 rows"; refusal 3).
 use mathlib.Core.Path.{_≡_}
 use mathlib.Core.Bool.{Bool, _&&_}
-use mathlib.Core.List.{List}
 use Prim.Native.Nat.{ℕ, _*_, _≤_}
 use lib.Dec.{leb, eqb}
 use lib.ListN.{length}
 use Rattle.laws.specs.Test.{Says, says-map, says-and, says-leb, says-eqb, pick}
-use Rattle.rows.specs.declared.Fit.{Fit}
-use Rattle.rows.specs.declared.Fit.the-variants.{Capacity, Misfit}
+use Rattle.rows.specs.declared.capacity.Fit.{Fit}
+use Rattle.rows.specs.declared.capacity.Fit.the-variants.{Capacity, Misfit}
 use Rattle.rows.specs.Layout.{fieldStride, numberStride, entryStride}
 use Rattle.rows.specs.Row.{Parts}
 
@@ -23,14 +22,14 @@ pub record Fits (c : ℕ) (t : Parts) : Type 0 where
   pub numbers : length (t .numbers) ≡ c * numberStride
   pub ancestors : length (t .ancestors) ≡ c * entryStride
 
--- the same as a test
-unfoldable pub fits : ℕ → Parts → Bool
-fits c t =
-    leb 1 c &&
-    (leb c capacityLimit &&
-    (eqb (length (t .levels)) c &&
-    (eqb (length (t .fields)) (c * fieldStride) && (eqb (length (t .numbers)) (c * numberStride) && eqb (length (t .ancestors)) (c * entryStride)))))
+-- the same as a test; the levels, one to a row, tell the capacity
+unfoldable pub fits : Parts → Bool
+fits t =
+    leb 1 (length (t .levels)) &&
+    (leb (length (t .levels)) capacityLimit &&
+    (eqb (length (t .fields)) (length (t .levels) * fieldStride) &&
+    (eqb (length (t .numbers)) (length (t .levels) * numberStride) && eqb (length (t .ancestors)) (length (t .levels) * entryStride))))
 
--- the capacity that the parts fit: the levels, one to a row, tell it
+-- the capacity that the parts fit
 unfoldable pub capacityOf : Parts → Fit
-capacityOf t = pick (fits (length (t .levels)) t) (Capacity (length (t .levels))) Misfit
+capacityOf t = pick (fits t) (Capacity (length (t .levels))) Misfit

@@ -1,5 +1,6 @@
 -- The stored tree that a table records (01, "Stored tree, paths and spans" and inspection's rule 1).
 use mathlib.Core.Path.{_≡_}
+use mathlib.Core.Logic.{_≢_}
 use Prim.Native.Nat.{ℕ, _+_, _≤_, _<_}
 use lib.IntN.{ℤ, pos, _+ℤ_, _-ℤ_}
 use Rattle.tree_laws.specs.Ancestor.{none, Anc}
@@ -24,7 +25,7 @@ pub data LastOf (t : Table) (v : ℕ) : ℕ → Type 0 where
 pub record ChildLinks (t : Table) (x : ℕ) : Type 0 where
   pub first : FirstFrom t x 0 (t .row x .first)
   pub last : LastOf t x (t .row x .last)
-  pub next : parent t x < t .count → FirstFrom t (parent t x) (x + 1) (t .row x .next)
+  pub next : parent t x ≢ none → FirstFrom t (parent t x) (x + 1) (t .row x .next)
   pub alone : parent t x ≡ none → t .row x .next ≡ none
 
 -- x lies on the line from node 0 to the root
@@ -34,8 +35,8 @@ OnLine t x = Anc (parent t) x (t .root)
 -- the level of row x: 0 at node 0, one above its stored parent on the line to the root, one below it elsewhere
 pub record Level (t : Table) (x : ℕ) : Type 0 where
   pub first : parent t x ≡ none → level t x ≡ pos 0
-  pub onLine : parent t x < t .count → OnLine t x → level t x ≡ level t (parent t x) -ℤ pos 1
-  pub offLine : parent t x < t .count → (OnLine t x → ⊥) → level t x ≡ level t (parent t x) +ℤ pos 1
+  pub onLine : parent t x ≢ none → OnLine t x → level t x ≡ level t (parent t x) -ℤ pos 1
+  pub offLine : parent t x ≢ none → (OnLine t x → ⊥) → level t x ≡ level t (parent t x) +ℤ pos 1
 
 -- the label of row x: 0 on the line, 1 to 9,999 elsewhere
 abbrev pub labelLimit : ℕ
@@ -48,4 +49,4 @@ pub record Label (t : Table) (x : ℕ) : Type 0 where
 -- the depth of row x in the stored tree
 pub record Depth (t : Table) (x : ℕ) : Type 0 where
   pub first : parent t x ≡ none → depth t x ≡ 0
-  pub below : parent t x < t .count → depth t x ≡ depth t (parent t x) + 1
+  pub below : parent t x ≢ none → depth t x ≡ depth t (parent t x) + 1

@@ -1,6 +1,7 @@
-// The lent parts of a table: their layout, their capacity and the check of a row.
-// What the parts of a table fit.
-pub enum Fit {
-    Capacity(usize),
-    Misfit,
-}
+// The lent parts of a table: their layout, their capacity, and a row with its check.
+pub mod capacity;
+pub mod check;
+pub mod layout;
+pub mod refusal;
+pub mod row;
+pub mod state;
