@@ -3,4 +3,6 @@ pub mod Numbers
 pub mod NumberLaws
 pub mod Power
 pub mod PowerLaws
+pub mod Rank
 pub mod RankLaws
+pub mod ReachLaws

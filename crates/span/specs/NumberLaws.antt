@@ -30,6 +30,9 @@ pub capped-past : (n : ℕ) → limit < n → capped n ≡ over
 unfolding capped
 capped-past n h = rw (lt-leb n limit h)
 
+pub over-past : limit < over
+over-past = omega arith
+
 -- the mark is told from a number by the limit
 pub capped-test : (n : ℕ) → leb (capped n) limit ≡ leb n limit
 capped-test n = elim (decLe n limit) [

@@ -1,67 +1,71 @@
--- Where the rank of a distance lies, by the highest bit that is set in it.
-use mathlib.Core.Path.{_≡_, refl, _∙_}
-use mathlib.Core.Bool.{Bool, _&&_}
-use Prim.Native.Nat.{ℕ, suc, _+_, _-_, _*_, _/_, _^_, _≤_, _<_}
-use native.Mathlib.Nat.{add-assoc}
-use native.Mathlib.Numerals.{add-one}
+-- Laws of the rank.
+use mathlib.Core.Path.{_≡_, refl}
+use Prim.Native.Nat.{ℕ, zero, suc, _-_, _≤_, _<_}
+use native.Mathlib.Decide.{decLe}
 use native.Mathlib.Omega.{arith}
-use lib.Count.{leadingZeros, leading-top}
-use lib.Dec.{leb}
-use Rattle.laws.specs.Test.{Says, says-and, says-leb, says-all, says-get, allTo}
-use Rattle.span.specs.Power.{power, powerAt, rankOf, listed}
-use Rattle.span.specs.PowerLaws.{power-listed, rank-unique}
+use borrow.Author.Tests.{le-leb, lt-leb}
+use Rattle.span.specs.Constants.{limit}
+use Rattle.span.specs.Power.{listed, power}
+use Rattle.span.specs.PowerLaws.{power-le, power-pos, power-zero, limit-power}
+use Rattle.span.specs.Rank.{rankTo, rankOf, Ranked}
 
--- the rank of d is low, the next or the one after it
-pub record Near (d low : ℕ) : Type 0 where
-  pub small : low ≤ 122
-  pub reached : power low ≤ d
-  pub past : d < power (low + 3)
-
--- the index reached by 2^k: 995/512 is just below the quotient of the logarithms of 2 and 10/7
-abbrev pub reachedBy : ℕ → ℕ
-reachedBy k = k * 995 / 512
-
-abbrev Octave : ℕ → Type 0
-Octave k = (reachedBy k ≤ 122) × ((power (reachedBy k) ≤ 2 ^ k) × (2 ^ suc k ≤ power (reachedBy k + 3)))
-
-octaves : (k : ℕ) → k < 64 → Octave k
-unfolding power
-octaves = says-get (says-all test 64 (λ k l. says-and (says-leb _ _) (λ _. says-and (says-leb _ _) (λ _. says-leb _ _)))) refl
+rank-to-unique : (n d r : ℕ) → r ≤ n → power r ≤ d → d < power (suc r) → r ≡ rankTo n d
+unfolding rankTo
+rank-to-unique zero d r l a b = omega arith
+rank-to-unique (suc n) d r l a b = elim (decLe (power (suc n)) d) [
+  | yes y ↦ rw (le-leb (power (suc n)) d y) (same y)
+  | no z ↦ rw (lt-leb (power (suc n)) d (omega arith)) (rank-to-unique n d r (lower z) a b)
+]
   where
-    test : ℕ → Bool
-    test k = leb (reachedBy k) 122 && (leb (power (reachedBy k)) (2 ^ k) && leb (2 ^ suc k) (power (reachedBy k + 3)))
+    same : power (suc n) ≤ d → r ≡ suc n
+    same y = elim (decLe (suc n) r) [ yes k ↦ omega arith | no k ↦ absurd (omega (arith, power-le (suc r) (suc n) (omega arith))) ]
 
--- a number that is not 0 has a highest bit that is set
-pub top-le : (d : ℕ) → 0 < d → d < 2 ^ 64 → leadingZeros 64 d ≤ 63
-top-le d a b = omega (arith, leading-top 64 d a b .1)
+    lower : (power (suc n) ≤ d → ⊥) → r ≤ n
+    lower z = elim (decLe r n) [ yes k ↦ k | no k ↦ absurd (z (omega (arith, power-le (suc n) r (omega arith)))) ]
 
-pub near : (d : ℕ) → 0 < d → d < 2 ^ 64 → Near d (reachedBy (63 - leadingZeros 64 d))
-near d a b = from (leading-top 64 d a b)
+-- the rank is the one index between whose power and the next the distance lies
+pub rank-unique : (d r : ℕ) → r < listed → power r ≤ d → d < power (suc r) → r ≡ rankOf d
+unfolding rankOf
+rank-unique d r l a b = rank-to-unique (listed - 1) d r (omega arith) a b
+
+rank-to-spec : (n d : ℕ) → 1 ≤ d → d < power (suc n) → n < listed → Ranked d (rankTo n d)
+unfolding rankTo
+rank-to-spec zero d a b l = record { index = l; reached = omega (arith, power-zero); next = b }
+rank-to-spec (suc n) d a b l = elim (decLe (power (suc n)) d) [
+  | yes y ↦ rw (le-leb (power (suc n)) d y) record { index = l; reached = y; next = b }
+  | no z ↦ rw (lt-leb (power (suc n)) d (omega arith)) (rank-to-spec n d a (omega arith) (omega arith))
+]
+
+pub rank-spec : (d : ℕ) → 1 ≤ d → d < power listed → Ranked d (rankOf d)
+unfolding rankOf
+rank-spec d a b = rank-to-spec (listed - 1) d a b (omega arith)
+
+pub rank-zero : rankOf 0 ≡ 0
+unfolding rankOf rankTo
+rank-zero = none (listed - 1)
   where
-    from : (j : ℕ) × (leadingZeros 64 d + suc j ≡ 64) × (2 ^ j ≤ d) × (d < 2 ^ suc j) → Near d (reachedBy (63 - leadingZeros 64 d))
-    from t =
-        let j : 63 - leadingZeros 64 d ≡ t .0 = omega (arith, t .1) in
-        let o = octaves (t .0) (omega (arith, t .1)) in
-        rw j record { small = o .0; reached = omega (arith, o .1 .0, t .2); past = omega (arith, o .1 .1, t .3) }
+    none : (n : ℕ) → rankTo n 0 ≡ 0
+    none zero = refl
+    none (suc n) = rw (lt-leb (power (suc n)) 0 (power-pos (suc n))) (none n)
 
--- two comparisons choose the rank ---------------------------------------------------
+-- a distance reaches the power of an index exactly up to its rank
+pub rank-reach : (d i : ℕ) → 1 ≤ d → d < power listed → power i ≤ d → i ≤ rankOf d
+rank-reach d i a b h = elim (decLe i (rankOf d)) [
+  | yes l ↦ l
+  | no n ↦ absurd (omega (arith, rank-spec d a b .next, power-le (suc (rankOf d)) i (omega arith)))
+]
 
--- what stands at an index, as a comparison reads it
-at-index : (i k x : ℕ) → i + k < listed → x ≡ powerAt (i + k) → x ≡ power (i + k)
-at-index i k x l e = e ∙ power-listed (i + k) l
+pub rank-reached : (d i : ℕ) → 1 ≤ d → d < power listed → i ≤ rankOf d → power i ≤ d
+rank-reached d i a b l = omega (arith, rank-spec d a b .reached, power-le i (rankOf d) l)
 
-rank-at : (d r : ℕ) → r < listed → power r ≤ d → d < power (r + 1) → r ≡ rankOf d
-rank-at d r l a b = rank-unique d r l a (rw add-one at b)
+-- no distance within a table reaches past the list
+pub limit-listed : {d : ℕ} → d ≤ limit → d < power listed
+limit-listed h = omega (arith, limit-power, power-le 122 listed (omega arith))
 
-module _ {d low : ℕ} (h : Near d low) {x : ℕ} where
-  pub rank-low : x ≡ powerAt (low + 1) → d < x → low ≡ rankOf d
-  rank-low e l = rank-at d low (omega (arith, h .small)) (h .reached) (omega (arith, at-index low 1 x (omega (arith, h .small)) e))
-
-  pub rank-middle : {y : ℕ} → x ≡ powerAt (low + 1) → x ≤ d → y ≡ powerAt (low + 2) → d < y → low + 1 ≡ rankOf d
-  rank-middle {y} e a f b =
-      rank-at d (low + 1) (omega (arith, h .small)) (omega (arith, at-index low 1 x (omega (arith, h .small)) e))
-      (rw (add-assoc low 1 1) (omega (arith, at-index low 2 y (omega (arith, h .small)) f)))
-
-  pub rank-high : x ≡ powerAt (low + 2) → x ≤ d → low + 2 ≡ rankOf d
-  rank-high e a =
-      rank-at d (low + 2) (omega (arith, h .small)) (omega (arith, at-index low 2 x (omega (arith, h .small)) e)) (rw (add-assoc low 2 1) (h .past))
+-- a distance within a table has one of the 122 ranks of the ancestor entries
+pub rank-small : (d : ℕ) → d ≤ limit → rankOf d ≤ 121
+rank-small zero h = rw rank-zero (omega arith)
+rank-small (suc d) h = elim (decLe (rankOf (suc d)) 121) [
+  | yes l ↦ l
+  | no n ↦ absurd (omega (arith, limit-power, rank-reached (suc d) 122 (omega arith) (limit-listed h) (omega arith)))
+]

@@ -6,9 +6,10 @@ ghost use Rattle.span.specs.Numbers.{pOf, qOf, endOf, reachOf, fits, cap
 
 mod powers;
 
+pub use powers::LISTED;
 pub use powers::POWERS;
+pub use powers::all_powers;
 pub use powers::power;
-pub use powers::powers_of_ratio;
 pub use powers::rank;
 
 // A row's start, its set size and the number where its next child starts.
@@ -80,7 +81,7 @@ impl Span {
     pub fn fits(self) -> bool
         ensures { λ r. ⌜ r ≡ fits (self .start) (self .«set_size») ⌝ }
     {
-        number(self.start, self.set_size, Self::WIDTH) <= Self::LIMIT
+        self.end() <= Self::LIMIT
     }
 
     // How far q lies from p: a row is an ancestor entry by this number.

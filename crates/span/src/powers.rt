@@ -1,11 +1,15 @@
 // The powers of the span's ratio in whole numbers, and the rank of a distance among them.
 ghost use mathlib.Core.Path.{_≡_};
 ghost use Prim.Native.Nat.{ℕ, _+_, _*_, _^_, _<_, _≤_};
-ghost use Rattle.span.specs.Power.{powerAt, Powers, rankOf};
+ghost use Rattle.span.specs.Power.{powerAt, Powers};
+ghost use Rattle.span.specs.Rank.{rankOf};
 use super::Span;
 
+// How many powers are listed.
+pub const LISTED: usize = 125;
+
 // Entry i is the least whole number not below the i-th power of RATIO_UP / RATIO_DOWN.
-pub const POWERS: [u64; 125] = [
+pub const POWERS: [u64; LISTED] = [
     1,
     2,
     3,
@@ -134,7 +138,7 @@ pub const POWERS: [u64; 125] = [
 ];
 
 // The list, by its rule.
-pub fn powers_of_ratio() -> [u64; 125]
+pub fn all_powers() -> [u64; LISTED]
     ensures { λ r. do up ← ⟦Span::RATIO_UP⟧ .entry; down ← ⟦Span::RATIO_DOWN⟧ .entry; ⌜ Powers up down r ⌝ }
 {
     POWERS

@@ -2,8 +2,8 @@
 use borrow.Author.Needs.{needs}
 use mathlib.Core.Path.{sym}
 use native.Mathlib.Omega.{arith}
-use Rattle.span.specs.PowerLaws.{rank-zero}
-use Rattle.span.specs.RankLaws.{near, top-le, rank-low, rank-middle, rank-high}
+use Rattle.span.specs.RankLaws.{rank-zero}
+use Rattle.span.proofs.Octave.{near, top-le, rank-low, rank-middle, rank-high}
 use Rattle.span.proofs.powers.rank.Statement.{statement}
 use Rattle.span.proofs.powers.rank.Tie as tie
 
