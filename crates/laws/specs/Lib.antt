@@ -6,3 +6,4 @@ pub mod Fit
 pub mod Ratio
 pub mod Chain
 pub mod Strided
+pub mod Table

@@ -2,7 +2,7 @@
 use mathlib.Core.Path.{_≡_}
 use Prim.Native.Nat.{ℕ, _+_, _*_, _≤_, _<_}
 use native.Mathlib.Omega.{arith}
-use Rattle.laws.specs.Fourth.{fourth, fourth-le, fourth-mul, fourth-pos, fourth-ratio}
+use Rattle.laws.specs.Fourth.{fourth, fourth-le, fourth-pos, fourth-ratio}
 
 -- a child of set size o is renumbered at size s ≥ 6/5 o: 671 · 5 s⁴ is paid for by the growth of its fourth power
 pub renumber-pays : (s o : ℕ) → 6 * o ≤ 5 * s → 3355 * fourth s + 6480 * fourth o ≤ 6480 * fourth s
