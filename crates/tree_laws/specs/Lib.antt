@@ -10,3 +10,7 @@ pub mod StoredFromCompressed
 pub mod Reroot
 pub mod RerootLaws
 pub mod PlainFromStored
+pub mod Siblings
+pub mod Walk
+pub mod WalkLaws
+pub mod WalkReturns
