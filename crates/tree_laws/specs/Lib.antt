@@ -1,5 +1,7 @@
 pub mod Ancestor
 pub mod AncestorLaws
+pub mod Depth
+pub mod DepthLaws
 pub mod Nca
 pub mod NcaLaws
 pub mod Size
@@ -14,3 +16,5 @@ pub mod Siblings
 pub mod Walk
 pub mod WalkLaws
 pub mod WalkReturns
+pub mod SiblingsLaws
+pub mod Example

@@ -8,7 +8,9 @@ use native.Mathlib.Omega.{arith}
 use Rattle.laws.specs.Test.{Says, holds, fails, says-true, says-false, says-or, says-eqb, pick}
 use Rattle.tree_laws.specs.Ancestor.{none, Anc, here, there, Forest}
 use Rattle.tree_laws.specs.AncestorLaws.{trans, cases, parent-over, towards, row-some, anc-in, anc-rank, no-loop, antisym, one-child, decAnc}
-use Rattle.tree_laws.specs.AncestorLaws.{says-isAncestor, anc-copy, anc-back, Depth, depth-forest}
+use Rattle.tree_laws.specs.AncestorLaws.{says-isAncestor, anc-copy, anc-back}
+use Rattle.tree_laws.specs.Depth.{Depth}
+use Rattle.tree_laws.specs.DepthLaws.{depth-forest}
 use Rattle.tree_laws.specs.Nca.{Kindred}
 use Rattle.tree_laws.specs.NcaLaws.{nca-exists, anc-kindred}
 use Rattle.tree_laws.specs.Reroot.{PlainParent, root, turned, kept, childWithin, childToward, plainParent, meetWithin, meet, stepsBy, plainDepth, OnWay}

@@ -2,7 +2,9 @@
 use mathlib.Core.Path.{_≡_}
 use mathlib.Core.Logic.{_⊎_, _≢_}
 use mathlib.Core.List.{List, [], _∷_, _++_}
-use Prim.Native.Nat.{ℕ, _+_, _<_}
+use Prim.Native.Nat.{ℕ, zero, suc, _+_, _≤_, _<_}
+use lib.Dec.{eqb}
+use Rattle.laws.specs.Test.{pick}
 use Rattle.tree_laws.specs.Ancestor.{none}
 
 -- siblings in order: the first with all below it, then the rest
@@ -54,8 +56,41 @@ pub data Whole (parent : ℕ → ℕ) (n : ℕ) : Kin → Type 0 where
   all : {r : ℕ} {kids rest : Kin} → r < n → ((w : ℕ) → w < n → parent w ≡ r → Sibling kids w) → Whole parent n kids → Whole parent n rest
       → Whole parent n (node r kids rest)
 
+-- the forest from c on, as far as fuel allows
+unfoldable pub readKin : Links → ℕ → ℕ → Kin
+readKin k zero c = nil
+readKin k (suc fuel) c = pick (eqb c none) nil (node c (readKin k fuel (k .first c)) (readKin k fuel (k .next c)))
+
 -- f lists all that lies below v
 pub record Below (k : Links) (n v : ℕ) (f : Kin) : Type 0 where
   pub reads : Reads k v (k .first v) f
   pub full : (w : ℕ) → w < n → k .parent w ≡ v → Sibling f w
   pub whole : Whole (k .parent) n f
+
+-- the rows from c on along the next links
+pub data Chain (next : ℕ → ℕ) : ℕ → List ℕ → Type 0 where
+  stop : {c : ℕ} → c ≡ none → Chain next c []
+  more : {c : ℕ} {xs : List ℕ} → c ≢ none → Chain next (next c) xs → Chain next c (c ∷ xs)
+
+-- x is one of the rows
+abbrev pub Member : List ℕ → ℕ → Type 0
+Member [] x = ⊥
+Member (y ∷ ys) x = (x ≡ y) ⊎ Member ys x
+
+-- the links first and next list the children of v below n, and no other row
+pub record Children (k : Links) (n v : ℕ) : Type 0 where
+  pub list : List ℕ
+  pub chain : Chain (k .next) (k .first v) list
+  pub inside : (w : ℕ) → Member list w → w < n
+  pub over : (w : ℕ) → Member list w → k .parent w ≡ v
+  pub all : (w : ℕ) → w < n → k .parent w ≡ v → Member list w
+
+-- w is the least child of v from m on, or none
+pub data Least (parent : ℕ → ℕ) (n v m : ℕ) : ℕ → Type 0 where
+  nothing : ((x : ℕ) → x < n → m ≤ x → parent x ≢ v) → Least parent n v m none
+  found : {w : ℕ} → w < n → m ≤ w → parent w ≡ v → ((x : ℕ) → x < n → m ≤ x → parent x ≡ v → w ≤ x) → Least parent n v m w
+
+-- child links in order of arrival, that is, of row numbers
+pub record Arrival (k : Links) (n : ℕ) : Type 0 where
+  pub first : (v : ℕ) → v < n → Least (k .parent) n v 0 (k .first v)
+  pub next : (w : ℕ) → w < n → k .parent w ≢ none → Least (k .parent) n (k .parent w) (suc w) (k .next w)
