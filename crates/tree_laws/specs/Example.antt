@@ -1,8 +1,10 @@
 -- Two trees in one table: 0 over 1 over 2, and 0 over 3, which is the root of the plain tree (01, "Program and figures to check"); and 4 over 5.
 use mathlib.Core.Path.{_≡_, refl}
 use mathlib.Core.Bool.{true}
-use Prim.Native.Nat.{ℕ, zero, suc, _≤_, _<_}
+use mathlib.Core.List.{[], _∷_}
+use Prim.Native.Nat.{ℕ, _≤_, _<_}
 use native.Mathlib.Omega.{arith}
+use lib.ListN.{getD}
 use Rattle.laws.specs.Test.{says-get, says-not-get}
 use Rattle.tree_laws.specs.Ancestor.{none, Anc, here, there, Forest, isAncestor}
 use Rattle.tree_laws.specs.AncestorLaws.{says-isAncestor}
@@ -15,21 +17,10 @@ use Rattle.tree_laws.specs.Reroot.{plainParent, meet, stepsBy, plainDept
 use Rattle.tree_laws.specs.PlainFromStored.{plainNca, plainToX, plainToY, plain-characteristic}
 
 abbrev parent : ℕ → ℕ
-parent zero = none
-parent (suc zero) = 0
-parent (suc (suc zero)) = 1
-parent (suc (suc (suc zero))) = 0
-parent (suc (suc (suc (suc zero)))) = none
-parent (suc (suc (suc (suc (suc zero))))) = 4
-parent (suc (suc (suc (suc (suc (suc x)))))) = none
+parent x = getD (none ∷ 0 ∷ 1 ∷ 0 ∷ none ∷ 4 ∷ []) x none
 
 abbrev depth : ℕ → ℕ
-depth zero = 0
-depth (suc zero) = 1
-depth (suc (suc zero)) = 2
-depth (suc (suc (suc zero))) = 1
-depth (suc (suc (suc (suc zero)))) = 0
-depth (suc (suc (suc (suc (suc x))))) = 1
+depth x = getD (0 ∷ 1 ∷ 2 ∷ 1 ∷ 0 ∷ 1 ∷ []) x 0
 
 depths : Depth parent depth 6
 unfolding isDepth

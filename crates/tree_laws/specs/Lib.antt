@@ -18,3 +18,4 @@ pub mod WalkLaws
 pub mod WalkReturns
 pub mod SiblingsLaws
 pub mod Example
+pub mod PlainGrowth
