@@ -1,5 +1,7 @@
 pub mod Ancestor
 pub mod AncestorLaws
+pub mod Depth
+pub mod DepthLaws
 pub mod Nca
 pub mod NcaLaws
 pub mod Size
@@ -10,3 +12,10 @@ pub mod StoredFromCompressed
 pub mod Reroot
 pub mod RerootLaws
 pub mod PlainFromStored
+pub mod Siblings
+pub mod Walk
+pub mod WalkLaws
+pub mod WalkReturns
+pub mod SiblingsLaws
+pub mod Example
+pub mod PlainGrowth

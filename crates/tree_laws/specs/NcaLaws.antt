@@ -4,7 +4,7 @@ use mathlib.Core.Logic.{inl, inr, _≢_}
 use Prim.Native.Nat.{ℕ, _≤_, _<_}
 use Rattle.tree_laws.specs.Ancestor.{none, Anc, here, there, Forest}
 use Rattle.tree_laws.specs.AncestorLaws.{trans, cases, linear, parent-over, towards, climb, anc-in, anc-rank, no-loop, antisym, shallower-over}
-use Rattle.tree_laws.specs.AncestorLaws.{one-child, decAnc, root-of}
+use Rattle.tree_laws.specs.AncestorLaws.{one-child, decAnc, root-one, root-of}
 use Rattle.tree_laws.specs.Nca.{Kindred, Nca, Branch, itself, child, Characteristic}
 
 module _ {up : ℕ → ℕ} where
@@ -142,6 +142,12 @@ module _ {up rank : ℕ → ℕ} {n : ℕ} (t : Forest up rank n) where
 
   pub same-root : (x y : ℕ) (l : x < n) (m : y < n) → root-of t x l .root ≡ root-of t y m .root → Kindred up x y
   same-root x y l m e = record { root = root-of t y m .root; left = rw e at (root-of t x l .over); right = root-of t y m .over }
+
+  -- rows under two roots are not kindred
+  pub other-root : {a b x y : ℕ} → x < n → Anc up a x → up a ≡ none → Anc up b y → up b ≡ none → a ≢ b → ¬ Kindred up x y
+  other-root l p e q f d k =
+      let r = root-of t (k .root) (anc-in t l (k .left)) in
+      d (root-one p e (trans (r .over) (k .left)) (r .top) ∙ root-one (trans (r .over) (k .right)) (r .top) q f)
 
   -- where one row only has no row above it, the rows below n form one tree
   pub single-tree : (r : ℕ) → ((x : ℕ) → x < n → up x ≡ none → x ≡ r) → (x y : ℕ) → x < n → y < n → Kindred up x y

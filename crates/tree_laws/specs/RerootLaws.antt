@@ -7,8 +7,11 @@ use native.Mathlib.Decide.{ℕ-discrete}
 use native.Mathlib.Omega.{arith}
 use Rattle.laws.specs.Test.{Says, holds, fails, says-true, says-false, says-or, says-eqb, pick}
 use Rattle.tree_laws.specs.Ancestor.{none, Anc, here, there, Forest}
-use Rattle.tree_laws.specs.AncestorLaws.{trans, cases, parent-over, towards, row-some, anc-in, anc-rank, no-loop, antisym, one-child, decAnc}
-use Rattle.tree_laws.specs.AncestorLaws.{says-isAncestor, anc-copy, anc-back, Depth, depth-forest}
+use Rattle.tree_laws.specs.AncestorLaws.{trans, cases, parent-over, towards, row-some, anc-in, anc-rank, anc-rank-proper, no-loop, antisym, one-child}
+use Rattle.tree_laws.specs.AncestorLaws.{decAnc}
+use Rattle.tree_laws.specs.AncestorLaws.{says-isAncestor, anc-copy, anc-back}
+use Rattle.tree_laws.specs.Depth.{Depth}
+use Rattle.tree_laws.specs.DepthLaws.{depth-forest}
 use Rattle.tree_laws.specs.Nca.{Kindred}
 use Rattle.tree_laws.specs.NcaLaws.{nca-exists, anc-kindred}
 use Rattle.tree_laws.specs.Reroot.{PlainParent, root, turned, kept, childWithin, childToward, plainParent, meetWithin, meet, stepsBy, plainDepth, OnWay}
@@ -34,6 +37,14 @@ meets-over : {parent : ℕ → ℕ} {r x m : ℕ} → Meets parent r x m → Anc
 meets-over (met p) = here
 meets-over (top d e) = here
 meets-over (above d e p) = there e (meets-over p)
+
+meets-kindred : {parent : ℕ → ℕ} {r x m : ℕ} → Kindred parent x r → Meets parent r x m → Anc parent m r
+meets-kindred k (met p) = p
+meets-kindred k (top d e) = elim (cases (k .left)) [ inl z ↦ absurd (d (rw z at (k .right))) | inr s ↦ absurd (s .0 e) ]
+meets-kindred k (above d e p) = elim (cases (k .left)) [
+  | inl z ↦ absurd (d (rw z at (k .right)))
+  | inr s ↦ meets-kindred record { root = k .root; left = s .1; right = k .right } p
+]
 
 module _ {parent rank : ℕ → ℕ} {n r : ℕ} (t : Forest parent rank n) (l : r < n) where
   -- The function and the relation
@@ -206,6 +217,18 @@ module _ {parent rank : ℕ → ℕ} {n r : ℕ} (t : Forest parent rank n) (l :
   pub plain-depth-top : {x : ℕ} → x < n → ¬ Anc parent x r → parent x ≡ none → plainDepth parent rank r x ≡ 0
   unfolding plainDepth stepsBy
   plain-depth-top {x} i d e = rw (meets-one (meets x i) (top d e), says-false (says-isAncestor t x r l) d) (omega arith)
+
+  -- a row of the tree lies on that line exactly when its plain depth is as much less as it is lower
+  pub depth-on-line : {x : ℕ} → x < n → Kindred parent x r → plainDepth parent rank r x + rank x ≡ rank r → Anc parent x r
+  unfolding plainDepth stepsBy
+  depth-on-line {x} i k e = elim (decAnc t x r l) [
+    | yes p ↦ p
+    | no d ↦
+        let m = meets x i in
+        let p : Anc parent (meet parent rank r x) r = meets-kindred k m in
+        let q : meet parent rank r x ≢ x = λ z. d (rw z at p) in
+        absurd (omega (arith, rw (says-true (says-isAncestor t (meet parent rank r x) r l) p) at e, anc-rank-proper t i (meets-over m) q, anc-rank t l p))
+  ]
 
   -- the plain tree is a forest by the plain depth
   pub plain-forest : Forest (plainParent parent rank r) (plainDepth parent rank r) n

@@ -1,0 +1,260 @@
+-- Laws of trees in first-child/next-sibling form: links read as one forest only; what it lists below v is what lies below v in the tree.
+use mathlib.Core.Path.{_≡_, refl, ap, sym}
+use mathlib.Core.Bool.{Bool, false, _||_}
+use mathlib.Core.Logic.{_⊎_, inl, inr, _≢_}
+use mathlib.Core.List.{List, [], _∷_}
+use Prim.Native.Nat.{ℕ, zero, suc, _+_, _≤_, _<_}
+use native.Mathlib.Decide.{ℕ-discrete}
+use native.Mathlib.Omega.{arith}
+use lib.Dec.{eqb}
+use Rattle.laws.specs.Test.{Says, holds, fails, says-true, says-false, says-or, says-eqb, bit}
+use Rattle.laws.specs.Sum.{sum-eq, sum-add, sum-zero, countTo, count-one}
+use Rattle.tree_laws.specs.Ancestor.{none, Anc, here, Forest, isAncestor}
+use Rattle.tree_laws.specs.AncestorLaws.{trans, parent-over, Towards, towards, row-some, anc-in, no-loop, one-child, says-isAncestor}
+use Rattle.tree_laws.specs.Size.{size}
+use Rattle.tree_laws.specs.SizeLaws.{size-children, size-pos, childSum-one}
+use Rattle.tree_laws.specs.Siblings.{Kin, nil, node, count, In, Sibling, Distinct, empty, apart, Links, Reads, stop, more, readKin, Whole, nothing, all}
+use Rattle.tree_laws.specs.Siblings.{Below, Chain, Member, Children, Least, found, Arrival}
+
+-- One forest
+
+pub reads-one : {k : Links} {v c : ℕ} {f g : Kin} → Reads k v c f → Reads k v c g → f ≡ g
+reads-one (stop e) (stop h) = refl
+reads-one (stop e) (more d _ _ _) = absurd (d e)
+reads-one (more d _ _ _) (stop e) = absurd (d e)
+reads-one {c = c} (more d e p q) (more _ _ r s) = cc (reads-one p r, reads-one q s)
+
+-- the function finds it
+pub read-reads : {k : Links} {v c : ℕ} {f : Kin} (fuel : ℕ) → Reads k v c f → count f ≤ fuel → readKin k fuel c ≡ f
+unfolding readKin
+read-reads {c = c} zero (stop e) l = refl
+read-reads {c = c} (suc fuel) (stop e) l = rw (says-true (says-eqb c none) e)
+read-reads zero (more d e p q) l = absurd (omega arith)
+read-reads {c = c} (suc fuel) (more d e p q) l =
+    rw (says-false (says-eqb c none) d, read-reads fuel p (omega arith), read-reads fuel q (omega arith))
+
+pub sibling-parent : {k : Links} {v c w : ℕ} {f : Kin} → Reads k v c f → Sibling f w → k .parent w ≡ v
+sibling-parent (more d e p q) (inl z) = rw z e
+sibling-parent (more d e p q) (inr z) = sibling-parent q z
+
+-- each row lies below a sibling
+pub record Over (parent : ℕ → ℕ) (f : Kin) (x : ℕ) : Type 0 where
+  pub row : ℕ
+  pub sibling : Sibling f row
+  pub below : Anc parent row x
+
+-- from one of the siblings on
+record From (k : Links) (v c : ℕ) (f : Kin) : Type 0 where
+  kin : Kin
+  reads : Reads k v c kin
+  few : count kin ≤ count f
+
+sibling-from : {k : Links} {v c w : ℕ} {f : Kin} → Reads k v c f → Sibling f w → From k v w f
+sibling-from {f = f} (more d e p q) (inl z) = rw z record { kin = f; reads = more d e p q; few = omega arith }
+sibling-from (more d e p q) (inr z) = let r = sibling-from q z in record { kin = r .kin; reads = r .reads; few = omega (arith, r .few) }
+
+-- no sibling stands twice
+sibling-once : {k : Links} {v c : ℕ} {kids rest : Kin} → Reads k v c (node c kids rest) → ¬ Sibling rest c
+sibling-once {c = c} {kids} {rest} r s = go r (from r s)
+  where
+    from : {k : Links} {v : ℕ} → Reads k v c (node c kids rest) → Sibling rest c → From k v c rest
+    from (more d e p q) s = sibling-from q s
+
+    go : {k : Links} {v : ℕ} → Reads k v c (node c kids rest) → From k v c rest → ⊥
+    go r f = omega (arith, ap count (reads-one r (f .reads)), f .few)
+
+-- The rows of the forest
+
+pub in-inside : {parent : ℕ → ℕ} {n x : ℕ} {f : Kin} → Whole parent n f → In f x → x < n
+in-inside (all i full w u) (inl z) = rw z i
+in-inside (all i full w u) (inr (inl z)) = in-inside w z
+in-inside (all i full w u) (inr (inr z)) = in-inside u z
+
+-- all that lies below a sibling is listed
+pub below-in : {parent rank : ℕ → ℕ} {n x s : ℕ} {f : Kin} → Forest parent rank n → x < n → Whole parent n f → Sibling f s → Anc parent s x → In f x
+below-in t l (all i full w u) (inr z) p = inr (inr (below-in t l u z p))
+below-in t l (all i full w u) (inl z) p = elim (towards (rw z at p)) [
+  | inl e ↦ inl (sym e)
+  | inr o ↦ inr (inl (below-in t l w (full (o .child) (anc-in t l (o .down)) (o .over)) (o .down)))
+]
+
+-- the same as a test
+abbrev has : Kin → ℕ → Bool
+has nil x = false
+has (node r kids rest) x = eqb x r || (has kids x || has rest x)
+
+says-has : (f : Kin) (x : ℕ) → Says (In f x) (has f x)
+says-has nil x = fails (λ z. z)
+says-has (node r kids rest) x = says-or (says-eqb x r) (says-or (says-has kids x) (says-has rest x))
+
+-- as many rows pass it as there are
+count-has : (f : Kin) (n : ℕ) → Distinct f → ((x : ℕ) → In f x → x < n) → countTo (has f) n ≡ count f
+count-has nil n d h = sum-zero n
+count-has (node r kids rest) n (apart a b c p q) h = omega (
+  arith,
+  sum-eq (λ x. bit (has (node r kids rest) x)) (λ x. bit (eqb x r) + (bit (has kids x) + bit (has rest x))) n
+      (λ x l. each x (says-eqb x r) (says-has kids x) (says-has rest x)),
+  sum-add (λ x. bit (eqb x r)) (λ x. bit (has kids x) + bit (has rest x)) n,
+  sum-add (λ x. bit (has kids x)) (λ x. bit (has rest x)) n,
+  count-one (λ x. eqb x r) n r (h r (inl refl)) (says-true (says-eqb r r) refl) (λ x l d. says-false (says-eqb x r) d),
+  count-has kids n p (λ x z. h x (inr (inl z))),
+  count-has rest n q (λ x z. h x (inr (inr z))),
+)
+  where
+    each : (x : ℕ) {s t u : Bool} → Says (x ≡ r) s → Says (In kids x) t → Says (In rest x) u → bit (s || (t || u)) ≡ bit s + (bit t + bit u)
+    each x (holds e) (holds y) _ = absurd (a (rw e at y))
+    each x (holds e) (fails _) (holds z) = absurd (b (rw e at z))
+    each x (holds e) (fails _) (fails _) = refl
+    each x (fails _) (holds y) (holds z) = absurd (c x y z)
+    each x (fails _) (holds _) (fails _) = refl
+    each x (fails _) (fails _) (holds _) = refl
+    each x (fails _) (fails _) (fails _) = refl
+
+module _ (k : Links) {rank : ℕ → ℕ} {n : ℕ} (t : Forest (k .parent) rank n) where
+  -- each row lies below a sibling
+  pub in-over : {v c x : ℕ} {f : Kin} → Whole (k .parent) n f → Reads k v c f → In f x → Over (k .parent) f x
+  in-over {c = c} (all i full w u) (more d e p q) (inl z) = record { row = c; sibling = inl refl; below = rw z here }
+  in-over {c = c} (all i full w u) (more d e p q) (inr (inl z)) =
+      let o = in-over w p z in
+      let g = sibling-parent p (o .sibling) in
+      record { row = c; sibling = inl refl; below = trans (parent-over (row-some t i g) g) (o .below) }
+  in-over (all i full w u) (more d e p q) (inr (inr z)) = let o = in-over u q z in record { row = o .row; sibling = inr (o .sibling); below = o .below }
+
+  in-towards : {v c x : ℕ} {f : Kin} → v < n → Whole (k .parent) n f → Reads k v c f → In f x → Towards (k .parent) v x
+  in-towards l w r z =
+      let o = in-over w r z in
+      let e = sibling-parent r (o .sibling) in
+      record { child = o .row; some = row-some t l e; over = e; down = o .below }
+
+  -- no row stands below itself
+  in-other : {v c : ℕ} {f : Kin} → v < n → Whole (k .parent) n f → Reads k v c f → ¬ In f v
+  in-other {v} l w r z = let o = in-towards l w r z in no-loop t (o .child) (anc-in t l (o .down)) (o .some) (rw (o .over) (o .down))
+
+  -- no row stands twice
+  pub reads-distinct : {v c : ℕ} {f : Kin} → v < n → Whole (k .parent) n f → Reads k v c f → Distinct f
+  reads-distinct l nothing (stop e) = empty
+  reads-distinct {v} {c} l (all {kids = kids} {rest} i full w u) (more d e p q) = apart (in-other i w p) new two (reads-distinct i w p) (reads-distinct l u q)
+    where
+      alone : ¬ Sibling rest c
+      alone = sibling-once (more d e p q)
+
+      twice : {x : ℕ} → x < n → Anc (k .parent) c x → ¬ In rest x
+      twice j a z =
+          let o = in-over u q z in
+          alone (rw (one-child t l j (sibling-parent q (o .sibling)) e (o .below) a) at (o .sibling))
+
+      new : ¬ In rest c
+      new z = twice i here z
+
+      two : (x : ℕ) → In kids x → ¬ In rest x
+      two x y z = let o = in-towards i w p y in twice (in-inside w y) (trans (parent-over (o .some) (o .over)) (o .down)) z
+
+  -- The rows below v
+
+  module _ {v : ℕ} {f : Kin} (l : v < n) (b : Below k n v f) where
+    pub in-anc : {x : ℕ} → In f x → Anc (k .parent) v x
+    in-anc z = let o = in-towards l (b .whole) (b .reads) z in trans (parent-over (o .some) (o .over)) (o .down)
+
+    pub anc-in-kin : {x : ℕ} → x < n → Anc (k .parent) v x → (v ≡ x) ⊎ In f x
+    anc-in-kin i a = elim (towards a) [
+      | inl e ↦ inl e
+      | inr o ↦ inr (below-in t i (b .whole) (b .full (o .child) (anc-in t i (o .down)) (o .over)) (o .down))
+    ]
+
+    -- the size of v, so that the walk below v takes 2 · size - 1 steps
+    pub size-count : size (k .parent) rank n v ≡ 1 + count f
+    unfolding size
+    size-count = omega (
+      arith,
+      sum-eq (λ x. bit (isAncestor (k .parent) rank v x)) (λ x. bit (eqb v x) + bit (has f x)) n
+          (λ x i. each x i (says-isAncestor t v x i) (says-eqb v x) (says-has f x)),
+      sum-add (λ x. bit (eqb v x)) (λ x. bit (has f x)) n,
+      count-one (eqb v) n v l (says-true (says-eqb v v) refl) (λ x i d. says-false (says-eqb v x) (λ e. d (sym e))),
+      count-has f n (reads-distinct l (b .whole) (b .reads)) (λ x z. in-inside (b .whole) z),
+    )
+      where
+        each : (x : ℕ) → x < n → {s t u : Bool} → Says (Anc (k .parent) v x) s → Says (v ≡ x) t → Says (In f x) u → bit s ≡ bit t + bit u
+        each x i p (holds e) (holds z) = absurd (in-other l (b .whole) (b .reads) (rw (← e) at z))
+        each x i (holds _) (holds _) (fails _) = refl
+        each x i (fails d) (holds e) (fails _) = absurd (d (rw e here))
+        each x i (holds _) (fails _) (holds _) = refl
+        each x i (fails d) (fails _) (holds z) = absurd (d (in-anc z))
+        each x i (holds a) (fails d) (fails f) = elim (anc-in-kin i a) [ inl e ↦ absurd (d e) | inr z ↦ absurd (f z) ]
+        each x i (fails _) (fails _) (fails _) = refl
+
+-- Where first and next list the children of every row, all below a row can be read
+
+-- all below v, with its forest
+pub record SomeBelow (k : Links) (n v : ℕ) : Type 0 where
+  pub kin : Kin
+  pub is : Below k n v kin
+
+-- the forest of the children xs of v, from c on
+record Gathered (k : Links) (n v c : ℕ) (xs : List ℕ) : Type 0 where
+  kin : Kin
+  reads : Reads k v c kin
+  listed : (w : ℕ) → Member xs w → Sibling kin w
+  whole : Whole (k .parent) n kin
+
+gather : {k : Links} {n v c : ℕ} {xs : List ℕ} → Chain (k .next) c xs → ((w : ℕ) → Member xs w → (w < n) × (k .parent w ≡ v) × SomeBelow k n w)
+    → Gathered k n v c xs
+gather (stop e) h = record { kin = nil; reads = stop e; listed = λ w z. z; whole = nothing }
+gather {c = c} (more d p) h =
+    let a = h c (inl refl) in
+    let r = gather p (λ w z. h w (inr z)) in
+    record {
+      kin = node c (a .2 .kin) (r .kin);
+      reads = more d (a .1) (a .2 .is .reads) (r .reads);
+      listed = λ w z. elim z [ inl e ↦ inl e | inr y ↦ inr (r .listed w y) ];
+      whole = all (a .0) (a .2 .is .full) (a .2 .is .whole) (r .whole);
+    }
+
+module _ (k : Links) {rank : ℕ → ℕ} {n : ℕ} (t : Forest (k .parent) rank n) (g : (v : ℕ) → v < n → Children k n v) where
+  below-within : (fuel v : ℕ) → v < n → size (k .parent) rank n v ≤ fuel → SomeBelow k n v
+  below-within zero v l h = absurd (omega (arith, size-pos t v l))
+  below-within (suc fuel) v l h = go (g v l) (λ w i e. below-within fuel w i (smaller w i e))
+    where
+      smaller : (w : ℕ) → w < n → k .parent w ≡ v → size (k .parent) rank n w ≤ fuel
+      smaller w i e = omega (arith, size-children t v l, childSum-one (k .parent) n v (size (k .parent) rank n) w i e)
+
+      go : (c : Children k n v) → ((w : ℕ) → w < n → k .parent w ≡ v → SomeBelow k n w) → SomeBelow k n v
+      go c f = done (gather (c .chain) (λ w z. (c .inside w z, c .over w z, f w (c .inside w z) (c .over w z))))
+        where
+          done : Gathered k n v (k .first v) (c .list) → SomeBelow k n v
+          done r = record { kin = r .kin; is = record { reads = r .reads; full = λ w i e. r .listed w (c .all w i e); whole = r .whole } }
+
+  pub below-exists : (v : ℕ) → v < n → SomeBelow k n v
+  below-exists v l = below-within (size (k .parent) rank n v) v l (omega arith)
+
+-- Links in order of arrival list the children of every row
+
+-- the children of v from m on, from c on
+record ListedFrom (k : Links) (n v m c : ℕ) : Type 0 where
+  list : List ℕ
+  chain : Chain (k .next) c list
+  inside : (w : ℕ) → Member list w → w < n
+  over : (w : ℕ) → Member list w → k .parent w ≡ v
+  all : (w : ℕ) → w < n → m ≤ w → k .parent w ≡ v → Member list w
+
+module _ (k : Links) {n : ℕ} (small : n ≤ none) (o : Arrival k n) where
+  first-listed : {v m c : ℕ} → Least (k .parent) n v m c → ((w : ℕ) → w < n → m ≤ w → k .parent w ≡ v → ListedFrom k n v (suc w) (k .next w))
+      → ListedFrom k n v m c
+  first-listed (nothing f) rest = record { list = []; chain = stop refl; inside = λ w z. absurd z; over = λ w z. absurd z; all = λ w i j e. f w i j e }
+  first-listed {c = c} (found i j e f) rest =
+      let r = rest c i j e in
+      let d : c ≢ none = λ z. omega arith in
+      record {
+        list = c ∷ r .list;
+        chain = more d (r .chain);
+        inside = λ w z. elim z [ inl y ↦ rw y i | inr y ↦ r .inside w y ];
+        over = λ w z. elim z [ inl y ↦ rw y e | inr y ↦ r .over w y ];
+        all = λ w q p y. elim (ℕ-discrete w c) [ yes x ↦ inl x | no x ↦ inr (r .all w q (omega (arith, f w q p y)) y) ];
+      }
+
+  listed-from : (fuel : ℕ) {v m c : ℕ} → v < n → n ≤ m + fuel → Least (k .parent) n v m c → ListedFrom k n v m c
+  listed-from zero l h q = first-listed q (λ w i j e. absurd (omega arith))
+  listed-from (suc fuel) l h q = first-listed q (λ w i j e. listed-from fuel l (omega arith) (rw e at (o .next w i (λ z. omega arith))))
+
+  pub arrival-children : (v : ℕ) → v < n → Children k n v
+  arrival-children v l = let r = listed-from n l (omega arith) (o .first v l) in
+      record { list = r .list; chain = r .chain; inside = r .inside; over = r .over; all = λ w i e. r .all w i (omega arith) e }
