@@ -1,0 +1,4 @@
+pub mod Bytes
+pub mod Outcome
+pub mod Field
+pub mod FieldLaws
