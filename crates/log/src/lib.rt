@@ -5,7 +5,8 @@ use bytes::all_zero;
 use bytes::number_at;
 ghost use mathlib.Core.Path.{_≡_};
 ghost use Rattle.log.specs.Outcome.{outcomeOf};
-ghost use Rattle.log.specs.Field.{wholeField, nextAt, bodyAt, fieldAt};
+ghost use Rattle.log.specs.Field.{wholeField, nextAt, fieldAt};
+ghost use Rattle.log.specs.Body.{IsBody};
 
 // What stands at a place; `next` is the place to go on from.
 pub enum Field {
@@ -100,7 +101,7 @@ fn whole_field(tag: u8, body: &[u8], next: usize) -> Field
 fn next_at(log: &[u8], at: usize) -> usize
     ensures { λ r. ⌜ r ≡ nextAt (now (log .entry)) at ⌝ }
 {
-    if log.len() <= at {
+    if log.len() < at {
         return at;
     }
     let left = log.len() - at;
@@ -116,7 +117,7 @@ fn next_at(log: &[u8], at: usize) -> usize
 
 // The body of the field at a place, a part of the log; empty where the log ends there or the field is cut short.
 pub fn body_at(log: &[u8], at: usize) -> &[u8]
-    ensures { λ r. ⌜ now r ≡ bodyAt (now (log .entry)) at ⌝ }
+    ensures { λ r. ⌜ IsBody (log .entry) at r ⌝ }
 {
     let next = next_at(log, at);
     if next == at {

@@ -1,50 +1,37 @@
 -- `log::field_at` meets its contract: the next place says whether the field is cut short, and its body makes the rest.
-use mathlib.Core.Path.{_≡_, sym, _∙_}
+use mathlib.Core.Path.{sym, _∙_}
 use native.Mathlib.Omega.{arith}
 use borrow.Author.Needs.{needs}
-use Rattle.log.specs.Field.{wholeField}
 use Rattle.log.specs.FieldLaws.{field-end, field-stays, field-moves}
 use Rattle.log.proofs.field_at.Statement.{statement}
 use Rattle.log.proofs.field_at.Tie as tie
-use Rattle.log.proofs.field_at.Reads as reads
-use Rattle.log.proofs.field_at.Lts as lts
-use Rattle.log.proofs.body_at.Reads as body-at-reads
-use Rattle.log.proofs.next_at.Reads as next-at-reads
-use Rattle.log.proofs.whole_field.Reads as whole-field-reads
 
--- src/lib.rt:117:9
 returns : tie.Need-returns
 returns c = let a = c .before .before .args in sym (field-end (a .log .now) (a .at) (omega arith))
 
--- src/lib.rt:119:9
 next-at-requires : tie.Need-next-at-requires
 next-at-requires c κs = search needs
 
--- src/lib.rt:121:9
 returns-2 : tie.Need-returns-2
 returns-2 c =
     let a = c .before .before .before .before .args in
     sym (field-stays (a .log .now) (a .at) (omega arith) (sym (c .before .next-at .ensures) ∙ c .if2 .taken))
 
--- src/lib.rt:123:17
 shared-slice-read-whole-field : tie.Need-shared-slice-read-whole-field
 shared-slice-read-whole-field c = search needs
 
--- src/lib.rt:123:26
 body-at-requires : tie.Need-body-at-requires
 body-at-requires c κs = search needs
 
--- src/lib.rt:123:5
 whole-field-requires : tie.Need-whole-field-requires
 whole-field-requires c κs = search needs
 
--- src/lib.rt:113:1
 returns-3 : tie.Need-returns-3
 returns-3 c =
     let a = c .before .before .before .before .before .before .before .args in
     let next = c .before .before .before .before .next-at .ensures in
     c .whole-field .ensures
-    ∙ rw (c .before .body-at .ensures, next) (sym (field-moves (a .log .now) (a .at) (omega arith) (λ e. c .before .before .before .if2 .left (next ∙ e))))
+    ∙ rw (c .before .body-at .ensures .bytes, next) (sym (field-moves (a .log .now) (a .at) (omega arith) (λ e. c .before .before .before .if2 .left (next ∙ e))))
 
 pub field-at-spec : {M : Type 1} → statement M
 field-at-spec =

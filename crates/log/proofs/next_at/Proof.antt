@@ -1,12 +1,10 @@
 -- `log::next_at` meets its contract: each test that fails says that the field reaches past the end.
-use mathlib.Core.Path.{_≡_, sym}
+use mathlib.Core.Path.{sym}
 use native.Mathlib.Omega.{arith}
 use borrow.Author.Needs.{needs}
 use Rattle.log.specs.FieldLaws.{next-cut, next-whole}
 use Rattle.log.proofs.next_at.Statement.{statement}
 use Rattle.log.proofs.next_at.Tie as tie
-use Rattle.log.proofs.next_at.Reads as reads
-use Rattle.log.proofs.next_at.Lts as lts
 
 returns : tie.Need-returns
 returns c = let a = c .before .before .args in sym (next-cut (a .log .now) (a .at) (omega arith))

@@ -1,14 +1,10 @@
 -- `log::whole_field` meets its contract: at each `return` the tag, and the test of the body, say which case of `wholeField` holds.
 use borrow.Author.Needs.{needs}
 use borrow.Author.Tests.{eq-eqb, ne-eqb, not-true, not-false}
-use mathlib.Core.Path.{_≡_, refl, sym, _∙_}
+use mathlib.Core.Path.{sym, _∙_}
 use Rattle.log.specs.Field.{wholeField}
 use Rattle.log.proofs.whole_field.Statement.{statement}
 use Rattle.log.proofs.whole_field.Tie as tie
-use Rattle.log.proofs.whole_field.Reads as reads
-use Rattle.log.proofs.whole_field.Lts as lts
-use Rattle.log.proofs.bytes.all_zero.Reads as all-zero-reads
-use Rattle.log.proofs.bytes.number_at.Reads as number-at-reads
 
 returns : tie.Need-returns
 unfolding wholeField

@@ -7,8 +7,6 @@ use lib.ListN.{length, drop}
 use Rattle.log.specs.Bytes.{allZero, zero-on, zero-stop, zero-end}
 use Rattle.log.proofs.bytes.all_zero.Statement.{statement}
 use Rattle.log.proofs.bytes.all_zero.Tie as tie
-use Rattle.log.proofs.bytes.all_zero.Reads as reads
-use Rattle.log.proofs.bytes.all_zero.Lts as lts
 
 abbrev Inv-loop : tie.InvT-loop
 Inv-loop bytes i₀ i = allZero bytes ≡ allZero (drop i bytes)
