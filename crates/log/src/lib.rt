@@ -1,4 +1,4 @@
-// The fields of a log: one field at a place, and its body as a part of the log.
+// The log reader (document 01, "The log"): the field at a place of a log, and its body as a part of the log itself.
 mod bytes;
 
 use bytes::all_zero;
@@ -8,15 +8,15 @@ ghost use Rattle.log.specs.Outcome.{outcomeOf};
 ghost use Rattle.log.specs.Field.{wholeField, nextAt, fieldAt};
 ghost use Rattle.log.specs.Body.{IsBody};
 
-// What stands at a place; `next` is the place to go on from.
+// What stands at a place of a log. All but the end hold, last, the place to go on from.
 pub enum Field {
     End,
-    // The refusals.
+    // Refusals 6 to 9: odd tag, odd length, cut short, dirty filler.
     BadTag(usize),
     BadLength(usize),
     Truncated(usize),
     DirtyFiller(usize),
-    // The fields.
+    // The five kinds of field; the root is the paper's top, the label its panel.
     Leaf {
         parent: u16,
         label: u16,
@@ -36,6 +36,7 @@ pub enum Field {
     Filler(usize),
 }
 
+// The tags.
 const LEAF: u8 = 1;
 
 const ROOT: u8 = 2;
@@ -46,7 +47,7 @@ const ALIKE: u8 = 4;
 
 const FILLER: u8 = 9;
 
-// A whole field, of this tag and body.
+// What a whole field is, by its tag and body; `next` is the place past it.
 fn whole_field(tag: u8, body: &[u8], next: usize) -> Field
     ensures { λ r. ⌜ outcomeOf r ≡ wholeField tag (now (body .entry)) next ⌝ }
 {
@@ -126,7 +127,7 @@ pub fn body_at(log: &[u8], at: usize) -> &[u8]
     &log[at + 3..next]
 }
 
-// The field at a place.
+// The field at a place, looking for refusals 8, 6, 7 and 9 in this order.
 pub fn field_at(log: &[u8], at: usize) -> Field
     ensures { λ r. ⌜ outcomeOf r ≡ fieldAt (now (log .entry)) at ⌝ }
 {

@@ -30,8 +30,8 @@ returns-3 : tie.Need-returns-3
 returns-3 c =
     let a = c .before .before .before .before .before .before .before .args in
     let next = c .before .before .before .before .next-at .ensures in
-    c .whole-field .ensures
-    ∙ rw (c .before .body-at .ensures .bytes, next) (sym (field-moves (a .log .now) (a .at) (omega arith) (λ e. c .before .before .before .if2 .left (next ∙ e))))
+    let whole = field-moves (a .log .now) (a .at) (omega arith) (λ e. c .before .before .before .if2 .left (next ∙ e)) in
+    c .whole-field .ensures ∙ simp (c .before .body-at .ensures .bytes, next) (sym whole)
 
 pub field-at-spec : {M : Type 1} → statement M
 field-at-spec =
