@@ -1,0 +1,6 @@
+pub mod Bytes
+pub mod Outcome
+pub mod OutcomeLaws
+pub mod Field
+pub mod Body
+pub mod FieldLaws

@@ -1,0 +1,142 @@
+// The log reader (document 01, "The log"): the field at a place of a log, and its body as a part of the log itself.
+mod bytes;
+
+use bytes::all_zero;
+use bytes::number_at;
+ghost use mathlib.Core.Path.{_≡_};
+ghost use Rattle.log.specs.Outcome.{outcomeOf};
+ghost use Rattle.log.specs.Field.{wholeField, nextAt, fieldAt};
+ghost use Rattle.log.specs.Body.{IsBody};
+
+// What stands at a place of a log. All but the end hold, last, the place to go on from.
+pub enum Field {
+    End,
+    // Refusals 6 to 9: odd tag, odd length, cut short, dirty filler.
+    BadTag(usize),
+    BadLength(usize),
+    Truncated(usize),
+    DirtyFiller(usize),
+    // The five kinds of field; the root is the paper's top, the label its panel.
+    Leaf {
+        parent: u16,
+        label: u16,
+        next: usize,
+    },
+    Root(usize),
+    Question {
+        x: u16,
+        y: u16,
+        next: usize,
+    },
+    Alike {
+        x: u16,
+        y: u16,
+        next: usize,
+    },
+    Filler(usize),
+}
+
+// The tags.
+const LEAF: u8 = 1;
+
+const ROOT: u8 = 2;
+
+const QUESTION: u8 = 3;
+
+const ALIKE: u8 = 4;
+
+const FILLER: u8 = 9;
+
+// What a whole field is, by its tag and body; `next` is the place past it.
+fn whole_field(tag: u8, body: &[u8], next: usize) -> Field
+    ensures { λ r. ⌜ outcomeOf r ≡ wholeField tag (now (body .entry)) next ⌝ }
+{
+    match tag {
+        LEAF => {
+            if body.len() != 4 {
+                return Field::BadLength(next);
+            }
+            Field::Leaf {
+                parent: number_at(body, 0),
+                label: number_at(body, 2),
+                next,
+            }
+        }
+        ROOT => {
+            if body.len() != 0 {
+                return Field::BadLength(next);
+            }
+            Field::Root(next)
+        }
+        QUESTION => {
+            if body.len() != 4 {
+                return Field::BadLength(next);
+            }
+            Field::Question {
+                x: number_at(body, 0),
+                y: number_at(body, 2),
+                next,
+            }
+        }
+        ALIKE => {
+            if body.len() != 4 {
+                return Field::BadLength(next);
+            }
+            Field::Alike {
+                x: number_at(body, 0),
+                y: number_at(body, 2),
+                next,
+            }
+        }
+        FILLER => {
+            if !all_zero(body) {
+                return Field::DirtyFiller(next);
+            }
+            Field::Filler(next)
+        }
+        _ => Field::BadTag(next),
+    }
+}
+
+// The place past the field at a place, or the same place where the log ends there or the field is cut short.
+fn next_at(log: &[u8], at: usize) -> usize
+    ensures { λ r. ⌜ r ≡ nextAt (now (log .entry)) at ⌝ }
+{
+    if log.len() < at {
+        return at;
+    }
+    let left = log.len() - at;
+    if left < 3 {
+        return at;
+    }
+    let length = number_at(log, at + 1) as usize;
+    if left - 3 < length {
+        return at;
+    }
+    at + 3 + length
+}
+
+// The body of the field at a place, a part of the log; empty where the log ends there or the field is cut short.
+pub fn body_at(log: &[u8], at: usize) -> &[u8]
+    ensures { λ r. ⌜ IsBody (log .entry) at r ⌝ }
+{
+    let next = next_at(log, at);
+    if next == at {
+        return &log[..0];
+    }
+    &log[at + 3..next]
+}
+
+// The field at a place, looking for refusals 8, 6, 7 and 9 in this order.
+pub fn field_at(log: &[u8], at: usize) -> Field
+    ensures { λ r. ⌜ outcomeOf r ≡ fieldAt (now (log .entry)) at ⌝ }
+{
+    if log.len() <= at {
+        return Field::End;
+    }
+    let next = next_at(log, at);
+    if next == at {
+        return Field::Truncated(at);
+    }
+    whole_field(log[at], body_at(log, at), next)
+}
