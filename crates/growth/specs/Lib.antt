@@ -4,3 +4,6 @@ pub mod Chain
 pub mod ChainLaws
 pub mod Entries
 pub mod EntriesLaws
+pub mod Place
+pub mod SizeWalk
+pub mod SizeWalkLaws

@@ -3,3 +3,5 @@ mod chain;
 mod count;
 mod entries;
 mod good;
+mod place;
+mod size_walk;
