@@ -7,3 +7,5 @@ pub mod EntriesLaws
 pub mod Place
 pub mod SizeWalk
 pub mod SizeWalkLaws
+pub mod NumberWalk
+pub mod NumberWalkLaws

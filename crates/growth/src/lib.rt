@@ -3,5 +3,6 @@ mod chain;
 mod count;
 mod entries;
 mod good;
+mod number_walk;
 mod place;
 mod size_walk;
