@@ -26,6 +26,11 @@ topFrom (suc fuel) f m l n u top =
     pick (eqb u none) (At top)
     (pick (isGood f m l n u) (topFrom fuel f m l n (fieldAt f u upperPlace) (pick (outgrownAt f u) u top)) Corrupt)
 
+-- by what the chain holds
+abbrev pub onTop : {A : Type 0} → Top → (ℕ → A) → A → A
+onTop (At u) found other = found u
+onTop Corrupt found other = other
+
 -- one more in the size of row u
 unfoldable pub raisedAt : List ℕ → ℕ → List ℕ
 raisedAt f u = withField f u sizePlace (oneMore (fieldAt f u sizePlace))
