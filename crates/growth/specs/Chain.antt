@@ -12,7 +12,7 @@ use Rattle.rows.specs.Row.{fieldAt}
 use Rattle.rows.specs.Write.{withField}
 use Rattle.growth.specs.declared.chain.Top.{Top}
 use Rattle.growth.specs.declared.chain.Top.the-variants.{At, Corrupt}
-use Rattle.growth.specs.Count.{oneMore}
+use Rattle.numbering.specs.Count.{oneMore}
 use Rattle.growth.specs.Good.{isGood}
 
 -- row u, with one row more below it, has outgrown its set size

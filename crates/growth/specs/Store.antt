@@ -1,26 +1,13 @@
--- The stores of a growth that is planned (01, "Renumbering head v").
-use mathlib.Core.Bool.{true}
+-- The stores of a growth that is planned.
 use mathlib.Core.List.{List}
 use Prim.Native.Nat.{ℕ}
 use lib.IntN.{ℤ}
 use Rattle.rows.specs.Row.{Parts, partsOf}
 use Rattle.rows.specs.Write.{withLevel}
-use Rattle.growth.specs.declared.plan.Head.{Head}
 use Rattle.growth.specs.declared.plan.Plan.{Plan}
-use Rattle.growth.specs.Count.{stepsOf}
 use Rattle.growth.specs.Attach.{attached}
-use Rattle.growth.specs.SizeWalk.{sizeWalk}
-use Rattle.growth.specs.NumberWalk.{Written, written, rowNumbered, Walked, numberWalk}
-
--- true sizes and heavy links at and below the head
-abbrev pub resized : Written → Head → Written
-resized w h = written (sizeWalk (stepsOf (h .rows)) (w .fields) (record { row = h .row; down = true; met = 0 })) (w .numbers) (w .ancestors)
-
--- then the numbers of the head and of all rows below it, and how many rows were given a start
-unfoldable pub renumbered : Written → Head → Walked
-renumbered w h =
-    numberWalk (stepsOf (h .rows)) (rowNumbered (resized w h) (h .row) (h .upper) (h .rows))
-    (record { row = h .row; down = true; apex = h .row; given = 1 })
+use Rattle.numbering.specs.NumberWalk.{written, Walked}
+use Rattle.numbering.specs.Renumber.{renumbered}
 
 -- the parts after a growth, and how many rows were given a start
 pub record Stored : Type 0 where

@@ -1,6 +1,6 @@
 // The chain of a new leaf: its upper rows, from the lowest up.
-use crate::count::one_more;
 use crate::good::is_good;
+use numbering::count::one_more;
 use rows::layout::NONE;
 use rows::layout::SET_SIZE;
 use rows::layout::SIZE;

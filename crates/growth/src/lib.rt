@@ -1,9 +1,9 @@
 // Growth: a new leaf or a new root, and the renumbering of the head of its chain.
-use crate::count::one_more;
 use crate::plan::Planned;
 use crate::plan::plan_leaf;
 use crate::plan::plan_root;
 use crate::store::store;
+use numbering::count::one_more;
 use rows::refusal::Refusal;
 use rows::state::State;
 ghost use mathlib.Core.Path.{_≡_};
@@ -14,14 +14,9 @@ ghost use Rattle.growth.specs.Growth.{outcome, grownBy, addLeaf, addRoot
 mod attach;
 mod chain;
 mod check_walk;
-mod count;
-mod entries;
 mod good;
 mod level;
-mod number_walk;
-mod place;
 mod plan;
-mod size_walk;
 mod store;
 
 // A growth that was served: count and root afterwards, the new row, and how many rows were renumbered.

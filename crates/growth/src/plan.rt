@@ -3,12 +3,13 @@ use crate::attach::Leaf;
 use crate::chain::Top;
 use crate::chain::top_of;
 use crate::check_walk::check_walk;
-use crate::count::one_more;
-use crate::count::steps_of;
 use crate::good::is_good;
 use crate::level::Level;
 use crate::level::leaf_level;
 use crate::level::root_level;
+use numbering::Head;
+use numbering::count::one_more;
+use numbering::count::steps_of;
 use rows::capacity::Fit;
 use rows::capacity::capacity;
 use rows::layout::DEPTH;
@@ -35,13 +36,6 @@ ghost use Rattle.rows.specs.Layout.{upperPlace};
 ghost use Rattle.rows.specs.Row.{partsOf, fieldAt};
 ghost use Rattle.growth.specs.Good.{Held};
 ghost use Rattle.growth.specs.Plan.{upperFor, oldHead, headOf, isSeated, isWhole, plannedAt, plannedRow, firstRoot, isLabel, leafPlan, rootPlan};
-
-// The row to be renumbered, its upper row, none for row 0, and how many rows lie at and below it.
-pub struct Head {
-    pub row: u16,
-    pub upper: u16,
-    pub rows: u16,
-}
 
 // A growth that will be served: the leaf, its upper row, depth, level and label, the head, and the root afterwards.
 pub struct Plan {
