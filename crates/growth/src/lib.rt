@@ -1,7 +1,7 @@
 // Growth: a new leaf or a new root, and the renumbering of the head of its chain.
 use crate::plan::Planned;
-use crate::plan::plan_leaf;
-use crate::plan::plan_root;
+use crate::plan_leaf::plan_leaf;
+use crate::plan_root::plan_root;
 use crate::store::store;
 use numbering::count::one_more;
 use rows::refusal::Refusal;
@@ -17,6 +17,8 @@ mod check_walk;
 mod good;
 mod level;
 mod plan;
+mod plan_leaf;
+mod plan_root;
 mod store;
 
 // A growth that was served: count and root afterwards, the new row, and how many rows were renumbered.

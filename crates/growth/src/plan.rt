@@ -4,14 +4,9 @@ use crate::chain::Top;
 use crate::chain::top_of;
 use crate::check_walk::check_walk;
 use crate::good::is_good;
-use crate::level::Level;
-use crate::level::leaf_level;
-use crate::level::root_level;
 use numbering::Head;
 use numbering::count::one_more;
 use numbering::count::steps_of;
-use rows::capacity::Fit;
-use rows::capacity::capacity;
 use rows::layout::DEPTH;
 use rows::layout::LAST;
 use rows::layout::NEXT_FREE;
@@ -22,20 +17,16 @@ use rows::layout::SIZE;
 use rows::layout::UPPER;
 use rows::refusal::Refusal;
 use rows::row::field;
-use rows::row::level;
 use rows::row::number;
-use rows::state::State;
-use rows::state::is_standing;
 use span::Span;
 ghost use mathlib.Core.Path.{_≡_};
-ghost use lib.ListN.{length};
 ghost use lib.Dec.{eqb};
 ghost use Rattle.laws.specs.Test.{pick};
 ghost use Rattle.tree_laws.specs.Ancestor.{none};
 ghost use Rattle.rows.specs.Layout.{upperPlace};
-ghost use Rattle.rows.specs.Row.{partsOf, fieldAt};
+ghost use Rattle.rows.specs.Row.{fieldAt};
 ghost use Rattle.growth.specs.Good.{Held};
-ghost use Rattle.growth.specs.Plan.{upperFor, oldHead, headOf, isSeated, isWhole, plannedAt, plannedRow, firstRoot, isLabel, leafPlan, rootPlan};
+ghost use Rattle.growth.specs.Plan.{upperFor, oldHead, headOf, isSeated, isWhole, plannedAt, plannedRow};
 
 // A growth that will be served: the leaf, its upper row, depth, level and label, the head, and the root afterwards.
 pub struct Plan {
@@ -181,7 +172,7 @@ fn plan_at(
 }
 
 // The plan of a leaf under p, at this level.
-fn plan_row(
+pub fn plan_row(
     fields: &[u16],
     numbers: &[u64],
     levels: &[i32],
@@ -214,124 +205,5 @@ fn plan_row(
         level,
         label,
         root,
-    )
-}
-
-// The plan of the first row of all.
-fn first_root() -> Plan
-    ensures { λ r. ⌜ r ≡ firstRoot ⌝ }
-{
-    let leaf = Leaf {
-        row: 0,
-        parent: NONE,
-        prev: NONE,
-    };
-    let head = Head {
-        row: 0,
-        upper: NONE,
-        rows: 1,
-    };
-    Plan {
-        leaf: leaf,
-        upper: NONE,
-        depth: 0,
-        level: 0,
-        label: 0,
-        head: head,
-        root: 0,
-    }
-}
-
-// A label that a leaf may have.
-fn is_label(label: u16) -> bool
-    ensures { λ r. ⌜ r ≡ isLabel label ⌝ }
-{
-    (1 <= label) & (label <= 9999)
-}
-
-// Why a leaf is refused, or its plan.
-pub fn plan_leaf(
-    fields: &[u16],
-    numbers: &[u64],
-    levels: &[i32],
-    ancestors: &[u16],
-    scratch: &[u16],
-    state: State,
-    parent: u16,
-    label: u16,
-) -> Planned
-    ensures { λ r. ⌜ r ≡ leafPlan (partsOf (now (fields .entry)) (now (numbers .entry)) (now (levels .entry)) (now (ancestors .entry))) (length (now (scratch .entry))) state parent label ⌝ }
-{
-    let Fit::Capacity(cap) = capacity(fields, numbers, levels, ancestors) else {
-        return Planned::Refuse(Refusal::Misfit);
-    };
-    if scratch.len() != cap {
-        return Planned::Refuse(Refusal::Misfit);
-    }
-    if state.count <= parent {
-        return Planned::Refuse(Refusal::UnknownNode);
-    }
-    if !is_label(label) {
-        return Planned::Refuse(Refusal::BadLabel);
-    }
-    if (state.count as usize) == cap {
-        return Planned::Refuse(Refusal::Full);
-    }
-    if !is_standing(cap, state) {
-        return Planned::Refuse(Refusal::Corrupt);
-    }
-    let Level::At(at) = leaf_level(level(levels, parent)) else {
-        return Planned::Refuse(Refusal::Corrupt);
-    };
-    plan_row(
-        fields,
-        numbers,
-        levels,
-        state.count,
-        parent,
-        at,
-        label,
-        state.root,
-    )
-}
-
-// Why a new root is refused, or its plan.
-pub fn plan_root(
-    fields: &[u16],
-    numbers: &[u64],
-    levels: &[i32],
-    ancestors: &[u16],
-    scratch: &[u16],
-    state: State,
-) -> Planned
-    ensures { λ r. ⌜ r ≡ rootPlan (partsOf (now (fields .entry)) (now (numbers .entry)) (now (levels .entry)) (now (ancestors .entry))) (length (now (scratch .entry))) state ⌝ }
-{
-    let Fit::Capacity(cap) = capacity(fields, numbers, levels, ancestors) else {
-        return Planned::Refuse(Refusal::Misfit);
-    };
-    if scratch.len() != cap {
-        return Planned::Refuse(Refusal::Misfit);
-    }
-    if (state.count as usize) == cap {
-        return Planned::Refuse(Refusal::Full);
-    }
-    if !is_standing(cap, state) {
-        return Planned::Refuse(Refusal::Corrupt);
-    }
-    if state.count == 0 {
-        return Planned::Grow(first_root());
-    }
-    let Level::At(at) = root_level(level(levels, state.root)) else {
-        return Planned::Refuse(Refusal::Corrupt);
-    };
-    plan_row(
-        fields,
-        numbers,
-        levels,
-        state.count,
-        state.root,
-        at,
-        0,
-        state.count,
     )
 }
