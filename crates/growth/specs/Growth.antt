@@ -7,7 +7,7 @@ use Rattle.growth.specs.declared.Grown.the-variants.{Node, Refused}
 use Rattle.growth.specs.declared.plan.Plan.{Plan}
 use Rattle.growth.specs.declared.plan.Planned.{Planned}
 use Rattle.growth.specs.declared.plan.Planned.the-variants.{Grow, Refuse}
-use Rattle.numbering.specs.Count.{oneMore}
+use Rattle.renumber.specs.Count.{oneMore}
 use Rattle.growth.specs.Plan.{leafPlan, rootPlan}
 use Rattle.growth.specs.Store.{Stored, storedBy}
 

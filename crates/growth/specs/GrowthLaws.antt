@@ -10,10 +10,10 @@ use Rattle.growth.specs.declared.Grown.the-variants.{Node, Refused}
 use Rattle.growth.specs.declared.plan.Plan.{Plan}
 use Rattle.growth.specs.declared.plan.Planned.{Planned}
 use Rattle.growth.specs.declared.plan.Planned.the-variants.{Grow, Refuse}
-use Rattle.numbering.specs.Count.{oneMore}
+use Rattle.renumber.specs.Count.{oneMore}
 use Rattle.growth.specs.Attach.{attached}
-use Rattle.numbering.specs.NumberWalk.{written, walked}
-use Rattle.numbering.specs.Renumber.{renumbered}
+use Rattle.renumber.specs.NumberWalk.{written, walked}
+use Rattle.renumber.specs.Renumber.{renumbered}
 use Rattle.growth.specs.Store.{stored, storedBy}
 use Rattle.growth.specs.Growth.{outcome, served, grownBy}
 

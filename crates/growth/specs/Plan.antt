@@ -15,11 +15,11 @@ use Rattle.rows.specs.Row.{Parts, fieldAt, numberAt, levelAt}
 use Rattle.rows.specs.Capacity.{capacityOf}
 use Rattle.rows.specs.State.{isStanding}
 use Rattle.growth.specs.declared.attach.Leaf.{Leaf}
-use Rattle.numbering.specs.declared.Head.{Head}
+use Rattle.renumber.specs.declared.Head.{Head}
 use Rattle.growth.specs.declared.plan.Plan.{Plan}
 use Rattle.growth.specs.declared.plan.Planned.{Planned}
 use Rattle.growth.specs.declared.plan.Planned.the-variants.{Grow, Refuse}
-use Rattle.numbering.specs.Count.{oneMore, stepsOf}
+use Rattle.renumber.specs.Count.{oneMore, stepsOf}
 use Rattle.growth.specs.Fitting.{onFit}
 use Rattle.growth.specs.Good.{isGood}
 use Rattle.growth.specs.Level.{levelOf, onLevel}

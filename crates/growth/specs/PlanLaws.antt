@@ -21,10 +21,10 @@ use Rattle.rows.specs.State.{isStanding}
 use Rattle.rows.specs.StateLaws.{says-standing}
 use Rattle.growth.specs.declared.chain.Top.the-variants.{At as Found, Corrupt as Broken}
 use Rattle.growth.specs.declared.level.Level.the-variants.{At, Out}
-use Rattle.numbering.specs.declared.Head.{Head}
+use Rattle.renumber.specs.declared.Head.{Head}
 use Rattle.growth.specs.declared.plan.Planned.{Planned}
 use Rattle.growth.specs.declared.plan.Planned.the-variants.{Grow, Refuse}
-use Rattle.numbering.specs.Count.{oneMore}
+use Rattle.renumber.specs.Count.{oneMore}
 use Rattle.growth.specs.Good.{Held, isGood}
 use Rattle.growth.specs.Level.{levelOf}
 use Rattle.growth.specs.Chain.{topFrom}

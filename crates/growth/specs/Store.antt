@@ -6,8 +6,8 @@ use Rattle.rows.specs.Row.{Parts, partsOf}
 use Rattle.rows.specs.Write.{withLevel}
 use Rattle.growth.specs.declared.plan.Plan.{Plan}
 use Rattle.growth.specs.Attach.{attached}
-use Rattle.numbering.specs.NumberWalk.{written, Walked}
-use Rattle.numbering.specs.Renumber.{renumbered}
+use Rattle.renumber.specs.NumberWalk.{written, Walked}
+use Rattle.renumber.specs.Renumber.{renumbered}
 
 -- the parts after a growth, and how many rows were given a start
 pub record Stored : Type 0 where

@@ -3,7 +3,7 @@ use crate::plan::Planned;
 use crate::plan_leaf::plan_leaf;
 use crate::plan_root::plan_root;
 use crate::store::store;
-use numbering::count::one_more;
+use renumber::count::one_more;
 use rows::refusal::Refusal;
 use rows::state::State;
 ghost use mathlib.Core.Path.{_≡_};

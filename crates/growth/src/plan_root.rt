@@ -5,7 +5,7 @@ use crate::level::root_level;
 use crate::plan::Plan;
 use crate::plan::Planned;
 use crate::plan::plan_row;
-use numbering::Head;
+use renumber::Head;
 use rows::capacity::Fit;
 use rows::capacity::capacity;
 use rows::layout::NONE;

@@ -1,7 +1,7 @@
 // The stores of a growth that is planned. Nothing is refused here.
 use crate::attach::attach;
 use crate::plan::Plan;
-use numbering::renumber;
+use renumber::renumber;
 use rows::write::put_level;
 ghost use mathlib.Core.Path.{_≡_};
 ghost use Rattle.rows.specs.Row.{partsOf};
