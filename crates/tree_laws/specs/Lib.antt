@@ -19,3 +19,5 @@ pub mod WalkReturns
 pub mod SiblingsLaws
 pub mod Example
 pub mod PlainGrowth
+pub mod HeavyLast
+pub mod HeavyLastLaws

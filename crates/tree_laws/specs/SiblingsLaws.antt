@@ -54,7 +54,7 @@ sibling-from {f = f} (more d e p q) (inl z) = rw z record { kin = f; reads = mor
 sibling-from (more d e p q) (inr z) = let r = sibling-from q z in record { kin = r .kin; reads = r .reads; few = omega (arith, r .few) }
 
 -- no sibling stands twice
-sibling-once : {k : Links} {v c : ℕ} {kids rest : Kin} → Reads k v c (node c kids rest) → ¬ Sibling rest c
+pub sibling-once : {k : Links} {v c : ℕ} {kids rest : Kin} → Reads k v c (node c kids rest) → ¬ Sibling rest c
 sibling-once {c = c} {kids} {rest} r s = go r (from r s)
   where
     from : {k : Links} {v : ℕ} → Reads k v c (node c kids rest) → Sibling rest c → From k v c rest
@@ -69,6 +69,10 @@ pub in-inside : {parent : ℕ → ℕ} {n x : ℕ} {f : Kin} → Whole parent n 
 in-inside (all i full w u) (inl z) = rw z i
 in-inside (all i full w u) (inr (inl z)) = in-inside w z
 in-inside (all i full w u) (inr (inr z)) = in-inside u z
+
+pub sibling-inside : {parent : ℕ → ℕ} {n w : ℕ} {f : Kin} → Whole parent n f → Sibling f w → w < n
+sibling-inside (all i full w u) (inl z) = rw z i
+sibling-inside (all i full w u) (inr z) = sibling-inside u z
 
 -- all that lies below a sibling is listed
 pub below-in : {parent rank : ℕ → ℕ} {n x s : ℕ} {f : Kin} → Forest parent rank n → x < n → Whole parent n f → Sibling f s → Anc parent s x → In f x
