@@ -2,6 +2,7 @@
 use mathlib.Core.Path.{_≡_, refl, sym, _∙_}
 use mathlib.Core.Logic.{inl, inr, _≢_}
 use Prim.Native.Nat.{ℕ, _≤_, _<_}
+use native.Mathlib.Decide.{ℕ-discrete}
 use Rattle.tree_laws.specs.Ancestor.{none, Anc, here, there, Forest}
 use Rattle.tree_laws.specs.AncestorLaws.{trans, cases, linear, parent-over, towards, climb, anc-in, anc-rank, no-loop, antisym, shallower-over}
 use Rattle.tree_laws.specs.AncestorLaws.{one-child, decAnc, root-one, root-of}
@@ -68,6 +69,12 @@ pub record SameAnswer (a b c a′ b′ c′ : ℕ) : Type 0 where
   pub nca : a ≡ a′
   pub toX : b ≡ b′
   pub toY : c ≡ c′
+
+-- of the nearest common ancestors a of x and y, b of x and z, c of y and z, two are equal and the third is at or below them
+pub data Median (up : ℕ → ℕ) (a b c : ℕ) : Type 0 where
+  lowest-xy : b ≡ c → Anc up b a → Median up a b c
+  lowest-yz : a ≡ b → b ≢ c → Anc up b c → Median up a b c
+  lowest-xz : a ≡ c → b ≢ c → Anc up c b → Median up a b c
 
 pub branch-exists : {up : ℕ → ℕ} {a x : ℕ} → Anc up a x → SomeBranch up a x
 branch-exists {up} {a} {x} r = elim (towards r) [
@@ -155,3 +162,27 @@ module _ {up rank : ℕ → ℕ} {n : ℕ} (t : Forest up rank n) where
       let p = root-of t x l in
       let q = root-of t y m in
       same-root x y l m (one (p .root) (anc-in t l (p .over)) (p .top) ∙ sym (one (q .root) (anc-in t m (q .over)) (q .top)))
+
+  -- Three rows of one tree
+
+  module _ {x y z a b c : ℕ} (l : x < n) (m : y < n) (xy : Nca up x y a) (xz : Nca up x z b) (yz : Nca up y z c) where
+    pub median : Median up a b c
+    median = elim (ℕ-discrete b c) [
+      | yes e ↦ lowest-xy e (xy .deepest b (xz .left) (rw e (yz .left)))
+      | no d ↦ elim (linear (xz .right) (yz .right)) [
+        | inl p ↦ lowest-yz (antisym t (anc-in t l (xz .left)) (over-b p d) (xy .deepest b (xz .left) (trans p (yz .left)))) d p
+        | inr p ↦ lowest-xz (antisym t (anc-in t m (yz .left)) (over-c p d) (xy .deepest c (trans p (xz .left)) (yz .left))) d p
+      ]
+    ]
+      where
+        over-b : Anc up b c → b ≢ c → Anc up a b
+        over-b p d = elim (linear (xy .right) (yz .left)) [
+          | inl q ↦ xz .deepest a (xy .left) (trans q (yz .right))
+          | inr q ↦ absurd (d (antisym t (anc-in t m (yz .left)) p (xz .deepest c (trans q (xy .left)) (yz .right))))
+        ]
+
+        over-c : Anc up c b → b ≢ c → Anc up a c
+        over-c p d = elim (linear (xy .left) (xz .left)) [
+          | inl q ↦ yz .deepest a (xy .right) (trans q (xz .right))
+          | inr q ↦ absurd (d (sym (antisym t (anc-in t l (xz .left)) p (yz .deepest b (trans q (xy .right)) (xz .right)))))
+        ]

@@ -2,12 +2,14 @@
 use mathlib.Core.Path.{_≡_, refl}
 use mathlib.Core.Logic.{_≢_}
 use mathlib.Core.List.{List, [], _∷_, _++_}
-use Prim.Native.Nat.{ℕ, zero, suc, _+_, _*_}
+use Prim.Native.Nat.{ℕ, zero, suc, _+_, _*_, _-_, _<_}
 use native.Mathlib.Nat.{zero-add, suc-add}
 use native.Mathlib.Omega.{arith}
 use Rattle.laws.specs.Test.{says-true, says-false, says-eqb}
-use Rattle.tree_laws.specs.Ancestor.{none}
-use Rattle.tree_laws.specs.Siblings.{Kin, nil, node, count, rows, Links, Reads, stop, more}
+use Rattle.tree_laws.specs.Ancestor.{none, Forest}
+use Rattle.tree_laws.specs.Size.{size}
+use Rattle.tree_laws.specs.SiblingsLaws.{size-count}
+use Rattle.tree_laws.specs.Siblings.{Below, Kin, nil, node, count, rows, Links, Reads, stop, more}
 use Rattle.tree_laws.specs.Walk.{Position, down, up, turn, move, place, Visit, act, run, sweep, onEntry, visits}
 
 -- A turn
@@ -53,6 +55,18 @@ module _ (k : Links) where
   pub run-tree : {S : Type 0} (w : Visit S) (x : ℕ) {f : Kin} → Reads k x (k .first x) f → (s : S)
       → run k w (2 * count f + 1) (down x) s ≡ sweep w f (w .enter x s)
   run-tree w x {f} g s = let n : 2 * count f + 1 ≡ suc (2 * count f) = omega arith in rw n (run-forest w g (w .enter x s))
+
+-- The same where the forest lists all below x: 2 · size - 1 steps
+
+module _ (k : Links) {rank : ℕ → ℕ} {n : ℕ} (t : Forest (k .parent) rank n) {x : ℕ} {f : Kin} (l : x < n) (b : Below k n x f) where
+  walk-steps : 2 * size (k .parent) rank n x - 1 ≡ 2 * count f + 1
+  walk-steps = omega (arith, size-count k t l b)
+
+  pub place-size : place k (2 * size (k .parent) rank n x - 1) (down x) ≡ up x
+  place-size = rw walk-steps (place-tree k x (b .reads))
+
+  pub run-size : {S : Type 0} (w : Visit S) (s : S) → run k w (2 * size (k .parent) rank n x - 1) (down x) s ≡ sweep w f (w .enter x s)
+  run-size w s = rw walk-steps (run-tree k w x (b .reads) s)
 
 -- A sweep with a visit on the way down only visits the rows in order
 
