@@ -9,8 +9,8 @@ use Rattle.laws.specs.Test.{says-true, says-false, says-not, says-eqb}
 use Rattle.tree_laws.specs.Ancestor.{none}
 use Rattle.tree_laws.specs.Compressed.{PathLinks}
 use Rattle.tree_laws.specs.Siblings.{Kin, nil, node, count, Sibling, Links, Reads, stop, more, Whole, nothing, all, Below}
-use Rattle.tree_laws.specs.SiblingsLaws.{sibling-once, sibling-inside}
-use Rattle.tree_laws.specs.HeavyLast.{orPath, lightFrom, heavyLast, chosen, arrange, arranged}
+use Rattle.tree_laws.specs.SiblingsLaws.{sibling-some, sibling-once}
+use Rattle.tree_laws.specs.HeavyLast.{PathAmong, PathsIn, empty, joined, orPath, lightFrom, heavyLast, chosen, arrange, arranged}
 
 module _ (path : ℕ → ℕ) (b : Bool) (v r : ℕ) (kids rest last : Kin) where
   arrange-on : chosen path b v r ≡ true → arrange path b v (node r kids rest) last ≡ node r (arranged path r kids) (arrange path b v rest last)
@@ -121,13 +121,13 @@ record Rearranged (k : Links) (path : ℕ → ℕ) (v c : ℕ) (f : Kin) : Type 
   light : (last : Kin) → Reads (heavyLast k path) v (path v) last → Reads (heavyLast k path) v (lightFrom path (k .next) v c) (arrange path false v f last)
   heavy : Sibling f (path v) → Reads (heavyLast k path) v (path v) (arrange path true v f nil)
 
-module _ (k : Links) (path : ℕ → ℕ) {n : ℕ} (small : n ≤ none) (g : PathLinks (k .parent) path n) where
-  all-below : (r : ℕ) (kids : Kin) → r < n → Whole (k .parent) n kids → ((w : ℕ) → w < n → k .parent w ≡ r → Sibling kids w)
-      → Rearranged k path r (k .first r) kids → Reads (heavyLast k path) r (heavyLast k path .first r) (arranged path r kids)
+module _ (k : Links) (path : ℕ → ℕ) where
+  all-below : (r : ℕ) (kids : Kin) → PathAmong path r kids → Reads k r (k .first r) kids → Rearranged k path r (k .first r) kids
+      → Reads (heavyLast k path) r (heavyLast k path .first r) (arranged path r kids)
   unfolding heavyLast arranged
-  all-below r kids i w full a = a .light (arrange path true r kids nil) (elim (ℕ-discrete (path r) none) [
-    | yes e ↦ rw (arrange-none path r kids (λ s. omega (arith, sibling-inside w s))) (stop e)
-    | no d ↦ a .heavy (full (path r) (g .inside r i d) (g .over r i d))
+  all-below r kids m q a = a .light (arrange path true r kids nil) (elim m [
+    | inl e ↦ rw (arrange-none path r kids (λ s. sibling-some q s e)) (stop e)
+    | inr s ↦ a .heavy s
   ])
 
   same-parent : (x : ℕ) → heavyLast k path .parent x ≡ k .parent x
@@ -156,18 +156,18 @@ module _ (k : Links) (path : ℕ → ℕ) {n : ℕ} (small : n ≤ none) (g : Pa
       next-in : {v : ℕ} → Reads k v c (node c kids rest) → k .next c ≢ none → k .next c ≡ c → Sibling rest c
       next-in (more _ _ _ q) h e = rw e at (first-in q h)
 
-  rearranged : {v c : ℕ} {f : Kin} → Whole (k .parent) n f → Reads k v c f → Rearranged k path v c f
-  rearranged {v} {c} nothing (stop e) = record {
+  rearranged : {v c : ℕ} {f : Kin} → PathsIn path f → Reads k v c f → Rearranged k path v c f
+  rearranged {v} {c} empty (stop e) = record {
     light = λ last h. rw (arrange-nil path false v last, from-none path (k .next) v c e) h;
     heavy = λ s. absurd s;
   }
-  rearranged {v} {c} (all {kids = kids} {rest} i full w u) (more d e p q) = one (rearranged w p) (rearranged u q)
+  rearranged {v} {c} (joined {kids = kids} {rest} m w u) (more d e p q) = one (rearranged w p) (rearranged u q)
     where
       one : Rearranged k path c (k .first c) kids → Rearranged k path v (k .next c) rest → Rearranged k path v c (node c kids rest)
       one a b = record { light = light; heavy = heavy }
         where
           below : Reads (heavyLast k path) c (heavyLast k path .first c) (arranged path c kids)
-          below = all-below c kids i w full a
+          below = all-below c kids m p a
 
           light : (last : Kin) → Reads (heavyLast k path) v (path v) last
               → Reads (heavyLast k path) v (lightFrom path (k .next) v c) (arrange path false v (node c kids rest) last)
@@ -191,11 +191,26 @@ module _ (k : Links) (path : ℕ → ℕ) {n : ℕ} (small : n ≤ none) (g : Pa
             ]
           ]
 
+  -- on any table: what the links read below v, the new links read in the new order
+  pub arranged-reads : {v : ℕ} {f : Kin} → PathAmong path v f → PathsIn path f → Reads k v (k .first v) f
+      → Reads (heavyLast k path) v (heavyLast k path .first v) (arranged path v f)
+  arranged-reads {v} {f} m w r = all-below v f m r (rearranged w r)
+
+-- On a table whose path links lead to children
+
+module _ (k : Links) (path : ℕ → ℕ) {n : ℕ} (g : PathLinks (k .parent) path n) where
+  path-among : {v : ℕ} (f : Kin) → v < n → ((w : ℕ) → w < n → k .parent w ≡ v → Sibling f w) → PathAmong path v f
+  path-among {v} f l full = elim (ℕ-discrete (path v) none) [ yes e ↦ inl e | no d ↦ inr (full (path v) (g .inside v l d) (g .over v l d)) ]
+
+  paths-in : {f : Kin} → Whole (k .parent) n f → PathsIn path f
+  paths-in nothing = empty
+  paths-in (all {kids = kids} i full w u) = joined (path-among kids i full) (paths-in w) (paths-in u)
+
   -- the new links list all below v, in the new order
   pub arranged-below : {v : ℕ} {f : Kin} → v < n → Below k n v f → Below (heavyLast k path) n v (arranged path v f)
   unfolding arranged heavyLast
   arranged-below {v} {f} l b = record {
-    reads = all-below v f l (b .whole) (b .full) (rearranged (b .whole) (b .reads));
+    reads = arranged-reads k path (path-among f l (b .full)) (paths-in (b .whole)) (b .reads);
     full = λ w i e. arranged-sibling path v w f (b .full w i e);
     whole = arrange-whole path false v f (arrange path true v f nil) (b .whole) (arrange-whole path true v f nil (b .whole) nothing);
   }

@@ -37,6 +37,10 @@ pub sibling-parent : {k : Links} {v c w : ℕ} {f : Kin} → Reads k v c f → S
 sibling-parent (more d e p q) (inl z) = rw z e
 sibling-parent (more d e p q) (inr z) = sibling-parent q z
 
+pub sibling-some : {k : Links} {v c w : ℕ} {f : Kin} → Reads k v c f → Sibling f w → w ≢ none
+sibling-some (more d e p q) (inl z) = rw z d
+sibling-some (more d e p q) (inr z) = sibling-some q z
+
 -- each row lies below a sibling
 pub record Over (parent : ℕ → ℕ) (f : Kin) (x : ℕ) : Type 0 where
   pub row : ℕ
@@ -69,10 +73,6 @@ pub in-inside : {parent : ℕ → ℕ} {n x : ℕ} {f : Kin} → Whole parent n 
 in-inside (all i full w u) (inl z) = rw z i
 in-inside (all i full w u) (inr (inl z)) = in-inside w z
 in-inside (all i full w u) (inr (inr z)) = in-inside u z
-
-pub sibling-inside : {parent : ℕ → ℕ} {n w : ℕ} {f : Kin} → Whole parent n f → Sibling f w → w < n
-sibling-inside (all i full w u) (inl z) = rw z i
-sibling-inside (all i full w u) (inr z) = sibling-inside u z
 
 -- all that lies below a sibling is listed
 pub below-in : {parent rank : ℕ → ℕ} {n x s : ℕ} {f : Kin} → Forest parent rank n → x < n → Whole parent n f → Sibling f s → Anc parent s x → In f x
