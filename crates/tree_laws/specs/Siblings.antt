@@ -4,7 +4,7 @@ use mathlib.Core.Logic.{_⊎_, _≢_}
 use mathlib.Core.List.{List, [], _∷_, _++_}
 use Prim.Native.Nat.{ℕ, zero, suc, _+_, _≤_, _<_}
 use lib.Dec.{eqb}
-use Rattle.laws.specs.Test.{pick}
+use Rattle.laws.specs.Test.{bit, pick}
 use Rattle.tree_laws.specs.Ancestor.{none}
 
 -- siblings in order: the first with all below it, then the rest
@@ -16,6 +16,15 @@ pub data Kin : Type 0 where
 abbrev pub count : Kin → ℕ
 count nil = 0
 count (node r kids rest) = 1 + count kids + count rest
+
+-- the sum of w over the rows
+abbrev pub sumOver : (ℕ → ℕ) → Kin → ℕ
+sumOver w nil = 0
+sumOver w (node r kids rest) = w r + sumOver w kids + sumOver w rest
+
+-- how many times x stands in f
+unfoldable pub times : ℕ → Kin → ℕ
+times x f = sumOver (λ r. bit (eqb x r)) f
 
 -- the rows, each before those below it
 abbrev pub rows : Kin → List ℕ

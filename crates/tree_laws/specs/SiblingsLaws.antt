@@ -13,7 +13,8 @@ use Rattle.tree_laws.specs.Ancestor.{none, Anc, here, Forest, isAncestor
 use Rattle.tree_laws.specs.AncestorLaws.{trans, parent-over, Towards, towards, row-some, anc-in, no-loop, one-child, says-isAncestor}
 use Rattle.tree_laws.specs.Size.{size}
 use Rattle.tree_laws.specs.SizeLaws.{size-children, size-pos, childSum-one}
-use Rattle.tree_laws.specs.Siblings.{Kin, nil, node, count, In, Sibling, Distinct, empty, apart, Links, Reads, stop, more, readKin, Whole, nothing, all}
+use Rattle.tree_laws.specs.Siblings.{Kin, nil, node, count, sumOver, times, In, Sibling, Distinct, empty, apart, Links, Reads, stop, more, readKin}
+use Rattle.tree_laws.specs.Siblings.{Whole, nothing, all}
 use Rattle.tree_laws.specs.Siblings.{Below, Chain, Member, Children, Least, found, Arrival}
 
 -- One forest
@@ -67,7 +68,55 @@ sibling-once {c = c} {kids} {rest} r s = go r (from r s)
     go : {k : Links} {v : ℕ} → Reads k v c (node c kids rest) → From k v c rest → ⊥
     go r f = omega (arith, ap count (reads-one r (f .reads)), f .few)
 
--- The rows of the forest
+-- The rows of a forest, and how many times each stands in it
+
+pub count-sum : (f : Kin) → count f ≡ sumOver (λ r. 1) f
+count-sum nil = refl
+count-sum (node r kids rest) = omega (arith, count-sum kids, count-sum rest)
+
+pub in-times : (f : Kin) (x : ℕ) → In f x → 1 ≤ times x f
+unfolding times
+in-times (node r kids rest) x (inl e) = omega (arith, ap bit (says-true (says-eqb x r) e))
+in-times (node r kids rest) x (inr (inl z)) = omega (arith, in-times kids x z)
+in-times (node r kids rest) x (inr (inr z)) = omega (arith, in-times rest x z)
+
+pub times-in : (f : Kin) (x : ℕ) → 1 ≤ times x f → In f x
+unfolding times
+times-in nil x h = omega arith
+times-in (node r kids rest) x h = go (says-eqb x r) h (times-in kids x) (times-in rest x)
+  where
+    go : {b : Bool} → Says (x ≡ r) b → 1 ≤ bit b + times x kids + times x rest → (1 ≤ times x kids → In kids x) → (1 ≤ times x rest → In rest x)
+        → (x ≡ r) ⊎ (In kids x ⊎ In rest x)
+    go (holds e) h p q = inl e
+    go (fails d) h p q = elim (ℕ-discrete (times x kids) 0) [ yes z ↦ inr (inr (q (omega arith))) | no z ↦ inr (inl (p (omega arith))) ]
+
+pub distinct-times : {f : Kin} → Distinct f → (x : ℕ) → times x f ≤ 1
+unfolding times
+distinct-times empty x = omega arith
+distinct-times (apart {r = r} {kids} {rest} a b c p q) x = go (says-eqb x r) (distinct-times p x) (distinct-times q x)
+  where
+    go : {s : Bool} → Says (x ≡ r) s → times x kids ≤ 1 → times x rest ≤ 1 → bit s + times x kids + times x rest ≤ 1
+    go (holds e) h i = elim (ℕ-discrete (times x kids) 0) [
+      | no z ↦ absurd (a (rw e at (times-in kids x (omega arith))))
+      | yes z ↦ elim (ℕ-discrete (times x rest) 0) [ yes y ↦ omega arith | no y ↦ absurd (b (rw e at (times-in rest x (omega arith)))) ]
+    ]
+    go (fails d) h i = elim (ℕ-discrete (times x kids) 0) [
+      | yes z ↦ omega arith
+      | no z ↦ elim (ℕ-discrete (times x rest) 0) [ yes y ↦ omega arith | no y ↦ absurd (c x (times-in kids x (omega arith)) (times-in rest x (omega arith))) ]
+    ]
+
+pub times-distinct : (f : Kin) → ((x : ℕ) → times x f ≤ 1) → Distinct f
+unfolding times
+times-distinct nil h = empty
+times-distinct (node r kids rest) h = apart {r = r} {kids = kids} {rest = rest}
+    (λ z. omega (arith, h r, self, in-times kids r z))
+    (λ z. omega (arith, h r, self, in-times rest r z))
+    (λ x y z. omega (arith, h x, in-times kids x y, in-times rest x z))
+    (times-distinct kids (λ x. omega (arith, h x)))
+    (times-distinct rest (λ x. omega (arith, h x)))
+  where
+    self : bit (eqb r r) ≡ 1
+    self = ap bit (says-true (says-eqb r r) refl)
 
 pub in-inside : {parent : ℕ → ℕ} {n x : ℕ} {f : Kin} → Whole parent n f → In f x → x < n
 in-inside (all i full w u) (inl z) = rw z i
