@@ -8,7 +8,7 @@ use native.Mathlib.Omega.{arith}
 use lib.Dec.{eqb, ltb}
 use Rattle.laws.specs.Test.{Says, holds, fails, says-map, says-and, says-eqb, says-ltb, says-all, pick}
 use Rattle.tree_laws.specs.Ancestor.{none, Anc, here, there, Forest}
-use Rattle.tree_laws.specs.AncestorLaws.{climb, anc-in, antisym, shallower-over}
+use Rattle.tree_laws.specs.AncestorLaws.{climb, anc-in, antisym, shallower-over, root-of}
 use Rattle.tree_laws.specs.Depth.{Depth, rowDepth, isDepth, AtDepth, Steps, self, over}
 
 module _ {up depth : ℕ → ℕ} {n : ℕ} (t : Depth up depth n) where
@@ -45,6 +45,13 @@ module _ {up depth : ℕ → ℕ} {n : ℕ} (t : Depth up depth n) where
       let s = anc-steps (t .inside x l h) r in
       let z : depth x - depth a ≡ suc (depth (up x) - depth a) = omega (arith, t .step x l h, steps-depth (t .inside x l h) s) in
       rw z (over h s)
+
+  -- walking up from x reaches its root in depth x steps
+  pub root-steps : (x : ℕ) (l : x < n) → Steps up (depth x) (root-of depth-forest x l .root) x
+  root-steps x l =
+      let r = root-of depth-forest x l in
+      let z : depth x - depth (r .root) ≡ depth x = omega (arith, t .root (r .root) (anc-in depth-forest l (r .over)) (r .top)) in
+      rw z at (anc-steps l (r .over))
 
   pub steps-one : {j k a x : ℕ} → x < n → Steps up j a x → Steps up k a x → j ≡ k
   steps-one l p q = omega (arith, steps-depth l p, steps-depth l q)
