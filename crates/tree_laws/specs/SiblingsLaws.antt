@@ -2,7 +2,7 @@
 use mathlib.Core.Path.{_≡_, refl, ap, sym}
 use mathlib.Core.Bool.{Bool, false, _||_}
 use mathlib.Core.Logic.{_⊎_, inl, inr, _≢_}
-use mathlib.Core.List.{List, [], _∷_}
+use mathlib.Core.List.{[]}
 use Prim.Native.Nat.{ℕ, zero, suc, _+_, _≤_, _<_}
 use native.Mathlib.Decide.{ℕ-discrete}
 use native.Mathlib.Omega.{arith}
@@ -12,9 +12,8 @@ use Rattle.laws.specs.Sum.{sum-eq, sum-add, sum-zero, countTo, count-one}
 use Rattle.tree_laws.specs.Ancestor.{none, Anc, here, Forest, isAncestor}
 use Rattle.tree_laws.specs.AncestorLaws.{trans, parent-over, Towards, towards, row-some, anc-in, no-loop, one-child, says-isAncestor}
 use Rattle.tree_laws.specs.Size.{size}
-use Rattle.tree_laws.specs.SizeLaws.{size-children, size-pos, childSum-one}
-use Rattle.tree_laws.specs.Siblings.{Kin, nil, node, count, In, Sibling, Distinct, empty, apart, Links, Reads, stop, more, readKin, Whole, nothing, all}
-use Rattle.tree_laws.specs.Siblings.{Below, Chain, Member, Children, Least, found, Arrival}
+use Rattle.tree_laws.specs.Siblings.{Kin, nil, node, count, sumOver, times, In, Sibling, Distinct, empty, apart, Links, Reads, stop, more, readKin}
+use Rattle.tree_laws.specs.Siblings.{Whole, nothing, all, Below}
 
 -- One forest
 
@@ -37,6 +36,10 @@ pub sibling-parent : {k : Links} {v c w : ℕ} {f : Kin} → Reads k v c f → S
 sibling-parent (more d e p q) (inl z) = rw z e
 sibling-parent (more d e p q) (inr z) = sibling-parent q z
 
+pub sibling-some : {k : Links} {v c w : ℕ} {f : Kin} → Reads k v c f → Sibling f w → w ≢ none
+sibling-some (more d e p q) (inl z) = rw z d
+sibling-some (more d e p q) (inr z) = sibling-some q z
+
 -- each row lies below a sibling
 pub record Over (parent : ℕ → ℕ) (f : Kin) (x : ℕ) : Type 0 where
   pub row : ℕ
@@ -54,7 +57,7 @@ sibling-from {f = f} (more d e p q) (inl z) = rw z record { kin = f; reads = mor
 sibling-from (more d e p q) (inr z) = let r = sibling-from q z in record { kin = r .kin; reads = r .reads; few = omega (arith, r .few) }
 
 -- no sibling stands twice
-sibling-once : {k : Links} {v c : ℕ} {kids rest : Kin} → Reads k v c (node c kids rest) → ¬ Sibling rest c
+pub sibling-once : {k : Links} {v c : ℕ} {kids rest : Kin} → Reads k v c (node c kids rest) → ¬ Sibling rest c
 sibling-once {c = c} {kids} {rest} r s = go r (from r s)
   where
     from : {k : Links} {v : ℕ} → Reads k v c (node c kids rest) → Sibling rest c → From k v c rest
@@ -63,7 +66,55 @@ sibling-once {c = c} {kids} {rest} r s = go r (from r s)
     go : {k : Links} {v : ℕ} → Reads k v c (node c kids rest) → From k v c rest → ⊥
     go r f = omega (arith, ap count (reads-one r (f .reads)), f .few)
 
--- The rows of the forest
+-- The rows of a forest, and how many times each stands in it
+
+pub count-sum : (f : Kin) → count f ≡ sumOver (λ r. 1) f
+count-sum nil = refl
+count-sum (node r kids rest) = omega (arith, count-sum kids, count-sum rest)
+
+pub in-times : (f : Kin) (x : ℕ) → In f x → 1 ≤ times x f
+unfolding times
+in-times (node r kids rest) x (inl e) = omega (arith, ap bit (says-true (says-eqb x r) e))
+in-times (node r kids rest) x (inr (inl z)) = omega (arith, in-times kids x z)
+in-times (node r kids rest) x (inr (inr z)) = omega (arith, in-times rest x z)
+
+pub times-in : (f : Kin) (x : ℕ) → 1 ≤ times x f → In f x
+unfolding times
+times-in nil x h = omega arith
+times-in (node r kids rest) x h = go (says-eqb x r) h (times-in kids x) (times-in rest x)
+  where
+    go : {b : Bool} → Says (x ≡ r) b → 1 ≤ bit b + times x kids + times x rest → (1 ≤ times x kids → In kids x) → (1 ≤ times x rest → In rest x)
+        → (x ≡ r) ⊎ (In kids x ⊎ In rest x)
+    go (holds e) h p q = inl e
+    go (fails d) h p q = elim (ℕ-discrete (times x kids) 0) [ yes z ↦ inr (inr (q (omega arith))) | no z ↦ inr (inl (p (omega arith))) ]
+
+pub distinct-times : {f : Kin} → Distinct f → (x : ℕ) → times x f ≤ 1
+unfolding times
+distinct-times empty x = omega arith
+distinct-times (apart {r = r} {kids} {rest} a b c p q) x = go (says-eqb x r) (distinct-times p x) (distinct-times q x)
+  where
+    go : {s : Bool} → Says (x ≡ r) s → times x kids ≤ 1 → times x rest ≤ 1 → bit s + times x kids + times x rest ≤ 1
+    go (holds e) h i = elim (ℕ-discrete (times x kids) 0) [
+      | no z ↦ absurd (a (rw e at (times-in kids x (omega arith))))
+      | yes z ↦ elim (ℕ-discrete (times x rest) 0) [ yes y ↦ omega arith | no y ↦ absurd (b (rw e at (times-in rest x (omega arith)))) ]
+    ]
+    go (fails d) h i = elim (ℕ-discrete (times x kids) 0) [
+      | yes z ↦ omega arith
+      | no z ↦ elim (ℕ-discrete (times x rest) 0) [ yes y ↦ omega arith | no y ↦ absurd (c x (times-in kids x (omega arith)) (times-in rest x (omega arith))) ]
+    ]
+
+pub times-distinct : (f : Kin) → ((x : ℕ) → times x f ≤ 1) → Distinct f
+unfolding times
+times-distinct nil h = empty
+times-distinct (node r kids rest) h = apart {r = r} {kids = kids} {rest = rest}
+    (λ z. omega (arith, h r, self, in-times kids r z))
+    (λ z. omega (arith, h r, self, in-times rest r z))
+    (λ x y z. omega (arith, h x, in-times kids x y, in-times rest x z))
+    (times-distinct kids (λ x. omega (arith, h x)))
+    (times-distinct rest (λ x. omega (arith, h x)))
+  where
+    self : bit (eqb r r) ≡ 1
+    self = ap bit (says-true (says-eqb r r) refl)
 
 pub in-inside : {parent : ℕ → ℕ} {n x : ℕ} {f : Kin} → Whole parent n f → In f x → x < n
 in-inside (all i full w u) (inl z) = rw z i
@@ -181,80 +232,3 @@ module _ (k : Links) {rank : ℕ → ℕ} {n : ℕ} (t : Forest (k .parent) rank
         each x i (fails d) (fails _) (holds z) = absurd (d (in-anc z))
         each x i (holds a) (fails d) (fails f) = elim (anc-in-kin i a) [ inl e ↦ absurd (d e) | inr z ↦ absurd (f z) ]
         each x i (fails _) (fails _) (fails _) = refl
-
--- Where first and next list the children of every row, all below a row can be read
-
--- all below v, with its forest
-pub record SomeBelow (k : Links) (n v : ℕ) : Type 0 where
-  pub kin : Kin
-  pub is : Below k n v kin
-
--- the forest of the children xs of v, from c on
-record Gathered (k : Links) (n v c : ℕ) (xs : List ℕ) : Type 0 where
-  kin : Kin
-  reads : Reads k v c kin
-  listed : (w : ℕ) → Member xs w → Sibling kin w
-  whole : Whole (k .parent) n kin
-
-gather : {k : Links} {n v c : ℕ} {xs : List ℕ} → Chain (k .next) c xs → ((w : ℕ) → Member xs w → (w < n) × (k .parent w ≡ v) × SomeBelow k n w)
-    → Gathered k n v c xs
-gather (stop e) h = record { kin = nil; reads = stop e; listed = λ w z. z; whole = nothing }
-gather {c = c} (more d p) h =
-    let a = h c (inl refl) in
-    let r = gather p (λ w z. h w (inr z)) in
-    record {
-      kin = node c (a .2 .kin) (r .kin);
-      reads = more d (a .1) (a .2 .is .reads) (r .reads);
-      listed = λ w z. elim z [ inl e ↦ inl e | inr y ↦ inr (r .listed w y) ];
-      whole = all (a .0) (a .2 .is .full) (a .2 .is .whole) (r .whole);
-    }
-
-module _ (k : Links) {rank : ℕ → ℕ} {n : ℕ} (t : Forest (k .parent) rank n) (g : (v : ℕ) → v < n → Children k n v) where
-  below-within : (fuel v : ℕ) → v < n → size (k .parent) rank n v ≤ fuel → SomeBelow k n v
-  below-within zero v l h = absurd (omega (arith, size-pos t v l))
-  below-within (suc fuel) v l h = go (g v l) (λ w i e. below-within fuel w i (smaller w i e))
-    where
-      smaller : (w : ℕ) → w < n → k .parent w ≡ v → size (k .parent) rank n w ≤ fuel
-      smaller w i e = omega (arith, size-children t v l, childSum-one (k .parent) n v (size (k .parent) rank n) w i e)
-
-      go : (c : Children k n v) → ((w : ℕ) → w < n → k .parent w ≡ v → SomeBelow k n w) → SomeBelow k n v
-      go c f = done (gather (c .chain) (λ w z. (c .inside w z, c .over w z, f w (c .inside w z) (c .over w z))))
-        where
-          done : Gathered k n v (k .first v) (c .list) → SomeBelow k n v
-          done r = record { kin = r .kin; is = record { reads = r .reads; full = λ w i e. r .listed w (c .all w i e); whole = r .whole } }
-
-  pub below-exists : (v : ℕ) → v < n → SomeBelow k n v
-  below-exists v l = below-within (size (k .parent) rank n v) v l (omega arith)
-
--- Links in order of arrival list the children of every row
-
--- the children of v from m on, from c on
-record ListedFrom (k : Links) (n v m c : ℕ) : Type 0 where
-  list : List ℕ
-  chain : Chain (k .next) c list
-  inside : (w : ℕ) → Member list w → w < n
-  over : (w : ℕ) → Member list w → k .parent w ≡ v
-  all : (w : ℕ) → w < n → m ≤ w → k .parent w ≡ v → Member list w
-
-module _ (k : Links) {n : ℕ} (small : n ≤ none) (o : Arrival k n) where
-  first-listed : {v m c : ℕ} → Least (k .parent) n v m c → ((w : ℕ) → w < n → m ≤ w → k .parent w ≡ v → ListedFrom k n v (suc w) (k .next w))
-      → ListedFrom k n v m c
-  first-listed (nothing f) rest = record { list = []; chain = stop refl; inside = λ w z. absurd z; over = λ w z. absurd z; all = λ w i j e. f w i j e }
-  first-listed {c = c} (found i j e f) rest =
-      let r = rest c i j e in
-      let d : c ≢ none = λ z. omega arith in
-      record {
-        list = c ∷ r .list;
-        chain = more d (r .chain);
-        inside = λ w z. elim z [ inl y ↦ rw y i | inr y ↦ r .inside w y ];
-        over = λ w z. elim z [ inl y ↦ rw y e | inr y ↦ r .over w y ];
-        all = λ w q p y. elim (ℕ-discrete w c) [ yes x ↦ inl x | no x ↦ inr (r .all w q (omega (arith, f w q p y)) y) ];
-      }
-
-  listed-from : (fuel : ℕ) {v m c : ℕ} → v < n → n ≤ m + fuel → Least (k .parent) n v m c → ListedFrom k n v m c
-  listed-from zero l h q = first-listed q (λ w i j e. absurd (omega arith))
-  listed-from (suc fuel) l h q = first-listed q (λ w i j e. listed-from fuel l (omega arith) (rw e at (o .next w i (λ z. omega arith))))
-
-  pub arrival-children : (v : ℕ) → v < n → Children k n v
-  arrival-children v l = let r = listed-from n l (omega arith) (o .first v l) in
-      record { list = r .list; chain = r .chain; inside = r .inside; over = r .over; all = λ w i e. r .all w i (omega arith) e }
