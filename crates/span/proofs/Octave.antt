@@ -1,15 +1,17 @@
 -- Where the rank of a distance lies, by the highest bit that is set in it: what `rank` goes by.
 use mathlib.Core.Path.{_≡_, refl, _∙_}
-use mathlib.Core.Bool.{Bool, _&&_}
+use mathlib.Core.Bool.{Bool, true, false, _&&_}
 use Prim.Native.Nat.{ℕ, suc, _+_, _-_, _*_, _/_, _^_, _≤_, _<_}
-use native.Mathlib.Nat.{add-assoc}
+use native.Mathlib.Nat.{add-zero, add-assoc}
+use native.Mathlib.Decide.{decLe}
 use native.Mathlib.Numerals.{add-one}
 use native.Mathlib.Omega.{arith}
 use lib.Count.{leadingZeros, leading-top}
 use lib.Dec.{leb}
-use Rattle.laws.specs.Test.{says-and, says-leb, says-all, says-get}
+use borrow.Author.Tests.{le-leb, lt-leb}
+use Rattle.laws.specs.Test.{bit, says-and, says-leb, says-all, says-get}
 use Rattle.span.specs.Power.{listed, power, powerAt}
-use Rattle.span.specs.PowerLaws.{power-listed}
+use Rattle.span.specs.PowerLaws.{power-le, power-listed}
 use Rattle.span.specs.Rank.{rankOf}
 use Rattle.span.specs.RankLaws.{rank-unique}
 
@@ -48,22 +50,32 @@ near d a b = from (leading-top 64 d a b)
 
 -- two comparisons choose the rank ---------------------------------------------------
 
--- what stands at an index, as a comparison reads it
-at-index : (i k x : ℕ) → i + k < listed → x ≡ powerAt (i + k) → x ≡ power (i + k)
-at-index i k x l e = e ∙ power-listed (i + k) l
+pub bit-le : (b : Bool) → bit b ≤ 1
+bit-le true = omega arith
+bit-le false = omega arith
 
-rank-at : (d r : ℕ) → r < listed → power r ≤ d → d < power (r + 1) → r ≡ rankOf d
-rank-at d r l a b = rank-unique d r l a (rw add-one at b)
+rank-plus : (d low k : ℕ) → low + k < listed → power (low + k) ≤ d → d < power (low + (k + 1)) → low + k ≡ rankOf d
+rank-plus d low k l a b = rank-unique d (low + k) l a (rw (← add-assoc low k 1, add-one) at b)
 
-module _ {d low : ℕ} (h : Near d low) {x : ℕ} where
-  pub rank-low : x ≡ powerAt (low + 1) → d < x → low ≡ rankOf d
-  rank-low e l = rank-at d low (omega (arith, h .small)) (h .reached) (omega (arith, at-index low 1 x (omega (arith, h .small)) e))
+two : (d low : ℕ) → Near d low → low + bit (leb (power (low + 1)) d) + bit (leb (power (low + 2)) d) ≡ rankOf d
+two d low h = elim (decLe (power (low + 1)) d) [
+  | no a ↦
+      rw (lt-leb (power (low + 1)) d (omega arith), lt-leb (power (low + 2)) d (omega (arith, rise)))
+      (omega (arith, rank-plus d low 0 (omega (arith, h .small)) (rw (add-zero low) (h .reached)) (omega arith)))
+  | yes a ↦ elim (decLe (power (low + 2)) d) [
+    | no b ↦
+        rw (le-leb (power (low + 1)) d a, lt-leb (power (low + 2)) d (omega arith))
+        (omega (arith, rank-plus d low 1 (omega (arith, h .small)) a (omega arith)))
+    | yes b ↦
+        rw (le-leb (power (low + 1)) d a, le-leb (power (low + 2)) d b)
+        (omega (arith, rank-plus d low 2 (omega (arith, h .small)) b (h .past)))
+  ]
+]
+  where
+    rise : power (low + 1) ≤ power (low + 2)
+    rise = power-le (low + 1) (low + 2) (omega arith)
 
-  pub rank-middle : {y : ℕ} → x ≡ powerAt (low + 1) → x ≤ d → y ≡ powerAt (low + 2) → d < y → low + 1 ≡ rankOf d
-  rank-middle {y} e a f b =
-      rank-at d (low + 1) (omega (arith, h .small)) (omega (arith, at-index low 1 x (omega (arith, h .small)) e))
-      (rw (add-assoc low 1 1) (omega (arith, at-index low 2 y (omega (arith, h .small)) f)))
-
-  pub rank-high : x ≡ powerAt (low + 2) → x ≤ d → low + 2 ≡ rankOf d
-  rank-high e a =
-      rank-at d (low + 2) (omega (arith, h .small)) (omega (arith, at-index low 2 x (omega (arith, h .small)) e)) (rw (add-assoc low 2 1) (h .past))
+-- as the code reads the two powers, x and y, and compares them
+pub rank-two : {d low x y : ℕ} → Near d low → x ≡ powerAt (low + 1) → y ≡ powerAt (low + 2) → low + bit (leb x d) + bit (leb y d) ≡ rankOf d
+rank-two {d} {low} h e f =
+    rw (e, f, power-listed (low + 1) (omega (arith, h .small)), power-listed (low + 2) (omega (arith, h .small))) (two d low h)

@@ -1,13 +1,13 @@
 -- Laws of a span's numbers: which are whole, and how they lie.
 use mathlib.Core.Path.{_≡_, refl}
 use mathlib.Core.Bool.{true}
-use Prim.Native.Nat.{ℕ, _+_, _*_, _^_, _≤_, _<_}
+use Prim.Native.Nat.{ℕ, _*_, _^_, _≤_, _<_}
 use native.Mathlib.Decide.{decLe}
 use native.Mathlib.Omega.{arith}
 use lib.Dec.{leb}
 use borrow.Author.Tests.{le-leb, lt-leb, leb-true}
 use Rattle.laws.specs.Fourth.{fourth, fourth-le, fourth-pow}
-use Rattle.span.specs.Constants.{capacity, exponent, width, limit, over}
+use Rattle.span.specs.Constants.{capacity, exponent, limit, over}
 use Rattle.span.specs.Numbers.{pOf, qOf, endOf, reachOf, fits, capped}
 
 -- the constants belong together --------------------------------------------------

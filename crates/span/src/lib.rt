@@ -1,6 +1,6 @@
 // The span of a row: its numbers p, q and end, the place of its next child, and the constants that belong to it.
 ghost use mathlib.Core.Path.{_≡_};
-ghost use Prim.Native.Nat.{ℕ, _+_, _*_, _<_, _≤_};
+ghost use Prim.Native.Nat.{_+_, _*_, _<_};
 ghost use Rattle.laws.specs.Fourth.{fourth};
 ghost use Rattle.span.specs.Numbers.{pOf, qOf, endOf, reachOf, fits, capped, outgrown, spanOf, placed};
 

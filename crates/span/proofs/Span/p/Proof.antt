@@ -1,6 +1,5 @@
 -- `p` lies one part after the start.
 use borrow.Author.Needs.{needs}
-use mathlib.Core.Path.{ap, _∙_}
 use native.Mathlib.Nat.{one-mul}
 use Rattle.span.proofs.Span.p.Statement.{statement}
 use Rattle.span.proofs.Span.p.Tie as tie
