@@ -1,3 +1,4 @@
+-- `capacity` tells the capacity that the lent parts fit.
 use mathlib.Core.Path.{refl}
 use native.Mathlib.Omega.{arith}
 use borrow.Author.Needs.{needs}
@@ -6,46 +7,35 @@ use Rattle.rows.specs.Capacity.{Fits}
 use Rattle.rows.specs.CapacityLaws.{capacity-fits, capacity-misfit}
 use Rattle.rows.proofs.capacity.capacity.Statement.{statement}
 use Rattle.rows.proofs.capacity.capacity.Tie as tie
-use Rattle.rows.proofs.capacity.capacity.Reads as reads
-use Rattle.rows.proofs.capacity.capacity.Lts as lts
 
 -- the parts as the call meets them
 abbrev lent : tie.Start → Parts
 lent c = partsOf (c .args .fields .now) (c .args .numbers .now) (c .args .levels .now) (c .args .ancestors .now)
 
--- src/capacity.rt:22:9
 returns : tie.Need-returns
 returns c = capacity-misfit (lent (c .before)) (λ f. omega arith)
 
--- src/capacity.rt:25:9
 returns-2 : tie.Need-returns-2
 returns-2 c = capacity-misfit (lent (c .before .before)) (λ f. omega arith)
 
--- src/capacity.rt:27:24
 mul-if3 : tie.Need-mul-if3
 mul-if3 c = search needs
 
--- src/capacity.rt:28:9
 returns-3 : tie.Need-returns-3
 returns-3 c = capacity-misfit (lent (c .before .before .before)) (λ f. omega arith)
 
--- src/capacity.rt:30:25
 mul-if4 : tie.Need-mul-if4
 mul-if4 c = search needs
 
--- src/capacity.rt:31:9
 returns-4 : tie.Need-returns-4
 returns-4 c = capacity-misfit (lent (c .before .before .before .before)) (λ f. omega arith)
 
--- src/capacity.rt:33:27
 mul-if5 : tie.Need-mul-if5
 mul-if5 c = search needs
 
--- src/capacity.rt:34:9
 returns-5 : tie.Need-returns-5
 returns-5 c = capacity-misfit (lent (c .before .before .before .before .before)) (λ f. omega arith)
 
--- src/capacity.rt:17:1
 returns-6 : tie.Need-returns-6
 returns-6 c = capacity-fits (lent (c .before .before .before .before .before)) record { least = omega arith; most = omega arith; levels = refl; fields = omega arith; numbers = omega arith; ancestors = omega arith }
 
