@@ -1,6 +1,5 @@
 -- Every number of a numbered table is small (01, "Every number stays at or below 5 × 2^60").
 use mathlib.Core.Bool.{Bool, true, false}
-use mathlib.Core.Path.{_≡_}
 use Prim.Native.Nat.{ℕ, zero, suc, _≤_, _<_, zero-le}
 use native.Mathlib.Omega.{arith}
 use Rattle.laws.specs.Test.{bit}
@@ -41,7 +40,7 @@ unfolding sizeIn
 size-le up rank n v = count-le (isAncestor up rank v) n
 
 module _ {t : Table} (r : Numbered t) where
-  pub sizes-small : (x : ℕ) → x < t .count → (size t x ≤ t .count) × (setSize t x ≤ t .count)
+  sizes-small : (x : ℕ) → x < t .count → (size t x ≤ t .count) × (setSize t x ≤ t .count)
   sizes-small x l = omega (arith, size-le (upper t) (depth t) (t .count) x, r .compressed .size x l, r .setSize x l .most)
 
   -- a span lies within that of the root over it, which starts at 0 and is no wider than the limit

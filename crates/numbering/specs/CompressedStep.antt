@@ -1,13 +1,12 @@
 -- The compressed step finds the characteristic ancestors of two rows in the compressed tree (Gabow, lemma 2.1 and the ancestor tables).
-use mathlib.Core.Path.{_≡_, refl, sym}
+use mathlib.Core.Path.{_≡_, refl}
 use mathlib.Core.Bool.{Bool}
-use mathlib.Core.Logic.{_⊎_, inl, inr, _≢_}
-use Prim.Native.Nat.{ℕ, suc, _+_, _*_, _≤_, _<_}
+use mathlib.Core.Logic.{inl, inr, _≢_}
+use Prim.Native.Nat.{ℕ, suc, _≤_, _<_}
 use native.Mathlib.Decide.{decLe}
 use native.Mathlib.Omega.{arith}
 use lib.Dec.{eqb}
 use Rattle.laws.specs.Test.{Says, holds, fails, says-false, says-map, says-and, says-leb, says-ltb, says-eqb, pick}
-use Rattle.laws.specs.Fourth.{fourth}
 use Rattle.tree_laws.specs.Ancestor.{none, Anc, here, there}
 use Rattle.tree_laws.specs.AncestorLaws.{trans, cases, linear, row-some, anc-in, no-loop, decAnc}
 use Rattle.tree_laws.specs.Nca.{Kindred, Nca, Branch, itself, child, Characteristic}
@@ -18,11 +17,13 @@ use Rattle.span.specs.PowerLaws.{power-below, below-power, power-up}
 use Rattle.span.specs.Rank.{rankOf}
 use Rattle.span.specs.RankLaws.{rank-spec, rank-small, limit-listed}
 use Rattle.rows.specs.Layout.{entryStride}
-use Rattle.rows.specs.Table.{Table, upper, setSize}
+use Rattle.rows.specs.Capacity.{capacityLimit}
+use Rattle.rows.specs.Table.{Table, upper}
 use Rattle.rows.specs.Spans.{p, q, reach}
 use Rattle.rows.specs.Entries.{Entry, absent, highest}
+use Rattle.rows.specs.Rules.{Rules}
 use Rattle.rows.specs.Sound.{Link}
-use Rattle.numbering.specs.Numbered.{Numbered, compressedTree}
+use Rattle.numbering.specs.Numbered.{Numbered, compressedTree, numbered, compressed-kindred}
 use Rattle.numbering.specs.Step.{distance, covers, Side, sideAt, sideAbove, stepAtEntry, stepPast, stepHold, compressedSide, branchOf}
 use Rattle.numbering.specs.Nesting.{Covers, anc-covers, covers-anc, distance-far, distance-near, distance-pos, reach-below, reach-ratio, reach-anc}
 use Rattle.numbering.specs.Bounds.{distance-small}
@@ -214,3 +215,8 @@ module _ {t : Table} (r : Numbered t) where
         same = s;
         characteristic = record { nca = f .nca; towardX = f .branch; towardY = rw s (h .branch) };
       }
+
+-- on a table that passes inspection, of any two rows
+pub rules-step : {capacity : ℕ} {t : Table} → Rules capacity t → capacity ≤ capacityLimit → (x y : ℕ) → x < t .count → y < t .count → x ≢ y
+    → Found t x y (distance t x y) (rankOf (distance t x y))
+rules-step r fits x y l m n = compressed-step (numbered r fits) x y l m n (compressed-kindred r fits x y l m)

@@ -4,7 +4,8 @@ use mathlib.Core.Logic.{inl, inr, _≢_}
 use Prim.Native.Nat.{ℕ, suc, _+_, _≤_, _<_}
 use native.Mathlib.Numerals.{add-one}
 use native.Mathlib.Omega.{arith}
-use lib.IntN.{ℤ, pos, sucℤ, predℤ, suc-pred, _+ℤ_, _-ℤ_, +ℤ-sucℤ, predℤ-+ℤ, +ℤ-idr, -ℤ-one, +ℤ-assoc, +ℤ-comm, +ℤ-negℤ-cancel, -ℤ-+ℤ-cancel}
+use lib.IntN.{ℤ, pos, sucℤ, predℤ, _+ℤ_, _-ℤ_}
+use lib.IntN.{suc-pred, +ℤ-sucℤ, predℤ-+ℤ, +ℤ-idr, -ℤ-one, +ℤ-assoc, +ℤ-comm, +ℤ-negℤ-cancel, -ℤ-+ℤ-cancel}
 use Rattle.tree_laws.specs.Ancestor.{none, Anc, here, there, Forest}
 use Rattle.tree_laws.specs.AncestorLaws.{trans, cases, climb, anc-in, decAnc}
 use Rattle.tree_laws.specs.Reroot.{PlainParent, root, turned, kept, plainDepth}

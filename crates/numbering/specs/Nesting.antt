@@ -1,7 +1,7 @@
 -- The spans of a numbered table are nested as its compressed tree is: p is a fat preorder numbering (Gabow, section 2).
 use mathlib.Core.Path.{_≡_, refl, sym, _∙_}
 use mathlib.Core.Logic.{_⊎_, inl, inr, _≢_}
-use Prim.Native.Nat.{ℕ, _+_, _*_, _≤_, _<_}
+use Prim.Native.Nat.{ℕ, _*_, _≤_, _<_}
 use native.Mathlib.Decide.{ℕ-discrete}
 use native.Mathlib.Omega.{arith}
 use Rattle.laws.specs.Fourth.{fourth, fourth-pos}
@@ -10,7 +10,7 @@ use Rattle.tree_laws.specs.Ancestor.{none, Anc, here, there}
 use Rattle.tree_laws.specs.AncestorLaws.{anc-in, no-loop, antisym, decAnc}
 use Rattle.tree_laws.specs.Nca.{Kindred, Nca, Branch, itself, child}
 use Rattle.tree_laws.specs.NcaLaws.{kindred-swap, characteristic-exists}
-use Rattle.rows.specs.Table.{Table, upper, setSize, start, nextFree}
+use Rattle.rows.specs.Table.{Table, upper, setSize, start}
 use Rattle.rows.specs.Spans.{p, q, end, reach, Apart}
 use Rattle.numbering.specs.Numbered.{Numbered, compressedTree}
 use Rattle.numbering.specs.Step.{distance}
