@@ -8,13 +8,15 @@ use lib.IntN.{ℤ, pos, sucℤ, predℤ, _+ℤ_, _-ℤ_}
 use lib.IntN.{suc-pred, +ℤ-sucℤ, predℤ-+ℤ, +ℤ-idr, -ℤ-one, +ℤ-assoc, +ℤ-comm, +ℤ-negℤ-cancel, -ℤ-+ℤ-cancel}
 use Rattle.tree_laws.specs.Ancestor.{none, Anc, here, there, Forest}
 use Rattle.tree_laws.specs.AncestorLaws.{trans, cases, climb, anc-in, decAnc}
-use Rattle.tree_laws.specs.Reroot.{PlainParent, root, turned, kept, plainDepth}
-use Rattle.tree_laws.specs.RerootLaws.{plain-parent, plain-root-over, plain-forest, plain-depth}
+use Rattle.tree_laws.specs.Reroot.{PlainParent, root, turned, kept}
+use Rattle.tree_laws.specs.RerootLaws.{plain-parent, plain-root-over}
+use Rattle.tree_laws.specs.PlainDepth.{plainDepth}
+use Rattle.tree_laws.specs.PlainDepthLaws.{plain-forest, plain-depth}
 use Rattle.rows.specs.Capacity.{capacityLimit}
 use Rattle.rows.specs.Table.{Table, parent, depth, level}
 use Rattle.rows.specs.StoredTree.{OnLine}
 use Rattle.rows.specs.PlainTree.{plain}
-use Rattle.rows.specs.Answer.{Steps, arrived, step}
+use Rattle.tree_laws.specs.Depth.{Steps, arrived, step}
 use Rattle.rows.specs.Rules.{Rules}
 use Rattle.numbering.specs.Numbered.{numbered, storedTree, stored-kindred}
 
