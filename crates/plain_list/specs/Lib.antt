@@ -1,0 +1,4 @@
+pub mod PlainList
+pub mod Naive
+pub mod PlainStep
+pub mod Example
