@@ -1,4 +1,6 @@
 pub mod PlainList
 pub mod Naive
 pub mod PlainStep
+pub mod AnswerLaws
+pub mod NaiveLaws
 pub mod Example
