@@ -1,14 +1,13 @@
 -- Answers and lists of labels are unique, and the same over parents and labels that agree on the rows in use.
 use mathlib.Core.Path.{_≡_, refl, sym, ap, _∙_}
 use mathlib.Core.List.{List, [], _∷_, _++_}
-use mathlib.Core.Logic.{_≢_}
 use Prim.Native.Nat.{ℕ, suc, _<_}
-use Rattle.tree_laws.specs.Ancestor.{none, Anc, Forest}
+use Rattle.tree_laws.specs.Ancestor.{Anc, Forest}
 use Rattle.tree_laws.specs.AncestorLaws.{anc-in, no-loop, anc-copy, anc-back}
 use Rattle.tree_laws.specs.Depth.{Steps, arrived, step}
 use Rattle.tree_laws.specs.DepthLaws.{steps-anc}
 use Rattle.tree_laws.specs.Nca.{Nca, Branch, itself, child}
-use Rattle.tree_laws.specs.NcaLaws.{characteristic-unique, branch-over}
+use Rattle.tree_laws.specs.NcaLaws.{characteristic-unique}
 use Rattle.rows.specs.Answer.{Answer, Answers, Labels, root, below, SameLabels}
 
 pub labels-unique : {up label : ℕ → ℕ} {x : ℕ} {l m : List ℕ} → Labels up label x l → Labels up label x m → l ≡ m
@@ -61,6 +60,13 @@ module _ {up rank : ℕ → ℕ} {n : ℕ} (t : Forest up rank n) where
       deepest = λ b p q. anc-agree (anc-in t l (c .left)) (c .deepest b (anc-agree-back l p) (anc-agree-back m q));
     }
 
+    pub forest-agree : Forest up′ rank n
+    forest-agree = record {
+      small = t .small;
+      inside = λ x l h. let e = agree x l in rw e (t .inside x l (λ z. h (e ∙ z)));
+      falls = λ x l h. let e = agree x l in rw e (t .falls x l (λ z. h (e ∙ z)));
+    }
+
     pub labels-agree : {label label′ : ℕ → ℕ} → ((x : ℕ) → x < n → label′ x ≡ label x) → {x : ℕ} {l : List ℕ} → x < n → Labels up label x l → Labels up′ label′ x l
     labels-agree s {x} l (root e) = root (agree x l ∙ e)
     labels-agree {label} {label′} s {x} l (below {l = r} h p) =
@@ -81,3 +87,7 @@ module _ {up rank : ℕ → ℕ} {n : ℕ} (t : Forest up rank n) where
       distanceY = steps-agree m (p .distanceY);
       label = p .label ∙ sym (s _ (anc-in t l (p .characteristic .nca .left)));
     }
+
+    pub same-agree : {label label′ : ℕ → ℕ} → ((x : ℕ) → x < n → label′ x ≡ label x) → {x y : ℕ} → x < n → y < n
+        → SameLabels up label x y → SameLabels up′ label′ x y
+    same-agree s l m p = record { list = p .list; left = labels-agree s l (p .left); right = labels-agree s m (p .right) }

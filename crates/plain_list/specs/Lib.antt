@@ -5,4 +5,6 @@ pub mod AnswerLaws
 pub mod NaiveLaws
 pub mod PlainStep
 pub mod PlainStepLaws
+pub mod Proper
+pub mod Shows
 pub mod Example
