@@ -30,10 +30,14 @@ pub record PlainOutcome : Type 0 where
   pub reply : PlainReply
   pub after : PlainList
 
--- unless the test passes the reply is refusal n, and the list stays as it was
+-- refusal n: it changes nothing
+abbrev pub refusalOf : ℕ → PlainList → PlainOutcome
+refusalOf n p = record { reply = refused n; after = p }
+
+-- refusal n unless the test passes
 abbrev pub unless : Bool → ℕ → PlainList → PlainOutcome → PlainOutcome
 unless true n p o = o
-unless false n p o = record { reply = refused n; after = p }
+unless false n p o = refusalOf n p
 
 -- both nodes are below the count
 abbrev pub bothKnown : PlainList → ℕ → ℕ → Bool
@@ -69,11 +73,12 @@ plainStep capacity p q = plainOutcome capacity p q .reply
 abbrev pub plainAfter : ℕ → PlainList → PlainCall → PlainList
 plainAfter capacity p q = plainOutcome capacity p q .after
 
--- the replies to a list of calls, one after another, and the list at the end
+-- the replies to a list of calls, and the plain list after the last
 pub record PlainRun : Type 0 where
   pub replies : List PlainReply
   pub last : PlainList
 
+-- the calls one after another, each on the list that the one before left
 unfoldable pub plainRun : ℕ → PlainList → List PlainCall → PlainRun
 plainRun capacity p [] = record { replies = []; last = p }
 plainRun capacity p (q ∷ qs) =

@@ -10,7 +10,7 @@ use Rattle.rows.specs.StoredTree.{labelLimit}
 use Rattle.plain_list.specs.PlainList.{PlainList, countOf, parentOf, labelOf, withLeaf, withRoot}
 use Rattle.plain_list.specs.Naive.{naiveAnswer, naiveSame}
 use Rattle.plain_list.specs.PlainStep.{PlainCall, leaf, root, question, alike, inspection, PlainReply, refused, node, answered, same, passes}
-use Rattle.plain_list.specs.PlainStep.{PlainOutcome, unless, bothKnown, plainOutcome, plainStep, plainAfter}
+use Rattle.plain_list.specs.PlainStep.{PlainOutcome, refusalOf, unless, bothKnown, plainOutcome, plainStep, plainAfter}
 
 pub says-bothKnown : (p : PlainList) (x y : ℕ) → Says ((x < countOf p) × (y < countOf p)) (bothKnown p x y)
 says-bothKnown p x y = says-and (says-ltb x (countOf p)) (λ _. says-ltb y (countOf p))
@@ -44,9 +44,6 @@ module _ (capacity : ℕ) (p : PlainList) where
 
 -- The refusals: the first that applies
 
-abbrev pub refusalOf : ℕ → PlainList → PlainOutcome
-refusalOf n p = record { reply = refused n; after = p }
-
 module _ (capacity : ℕ) (p : PlainList) where
   pub leaf-misfit : (v l s : ℕ) → s ≢ capacity → plainOutcome capacity p (leaf v l s) ≡ refusalOf 3 p
   unfolding plainOutcome
@@ -61,7 +58,8 @@ module _ (capacity : ℕ) (p : PlainList) where
   leaf-no-label v l s e h d =
       rw (eq-eqb s capacity e, lt-ltb v (countOf p) h, says-false (says-and (says-leb 1 l) (λ _. says-leb l labelLimit)) d)
 
-  pub leaf-full : (v l s : ℕ) → s ≡ capacity → v < countOf p → 1 ≤ l → l ≤ labelLimit → countOf p ≡ capacity → plainOutcome capacity p (leaf v l s) ≡ refusalOf 2 p
+  pub leaf-full : (v l s : ℕ) → s ≡ capacity → v < countOf p → 1 ≤ l → l ≤ labelLimit → countOf p ≡ capacity
+      → plainOutcome capacity p (leaf v l s) ≡ refusalOf 2 p
   unfolding plainOutcome
   leaf-full v l s e h i j f = rw (eq-eqb s capacity e, lt-ltb v (countOf p) h, le-leb 1 l i, le-leb l labelLimit j, eq-eqb (countOf p) capacity f)
 
