@@ -18,4 +18,10 @@ pub mod WalkLaws
 pub mod WalkReturns
 pub mod SiblingsLaws
 pub mod Example
+pub mod Join
+pub mod JoinLaws
 pub mod PlainGrowth
+pub mod HeavyLast
+pub mod HeavyLastLaws
+pub mod Highest
+pub mod HighestLaws
