@@ -1,0 +1,5 @@
+pub mod Growth
+pub mod Inserted
+pub mod Head
+pub mod Renumbered
+pub mod Trees
