@@ -3,3 +3,4 @@ pub mod Inserted
 pub mod Head
 pub mod Renumbered
 pub mod Trees
+pub mod PlantedLaws

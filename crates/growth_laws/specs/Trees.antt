@@ -89,6 +89,9 @@ recorded-depth {capacity} {t} r small = record {
   step = λ x l. r .depth x l .below;
 }
 
+pub recorded-forest : {capacity : ℕ} {t : Table} → Recorded capacity t → capacity ≤ most → Forest (parent t) (depth t) (t .count)
+recorded-forest r small = depth-forest (recorded-depth r small)
+
 pub own-trees : {capacity : ℕ} {t : Table} → Rules capacity t → capacity ≤ most → OwnTrees t
 own-trees {capacity} {t} r small = record {
   shape = recorded-depth (r .one) small;
