@@ -4,3 +4,5 @@ pub mod Head
 pub mod Renumbered
 pub mod Trees
 pub mod PlantedLaws
+pub mod Ready
+pub mod InsertedLaws

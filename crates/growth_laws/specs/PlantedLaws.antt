@@ -61,6 +61,10 @@ planted-same {t} {m} {d} {g} k s = record {
     c : SameLinks m d (t .count)
     c = s .links (t .count) (omega (arith, k .count))
 
+-- a row after the growth is an old one or the new one
+pub old-or-new : {t d : Table} {g : Growth} → Planted t d g → (x : ℕ) → x < d .count → (x < t .count) ⊎ (x ≡ t .count)
+old-or-new {t} k x l = elim (decLt x (t .count)) [ yes y ↦ inl y | no n ↦ inr (omega (arith, k .count)) ]
+
 module _ {capacity : ℕ} {t d : Table} {g : Growth} (r : Recorded capacity t) (small : capacity ≤ most) (a : Named t g) (k : Planted t d g) where
   -- The row above the new one
 
@@ -86,9 +90,6 @@ module _ {capacity : ℕ} {t d : Table} {g : Growth} (r : Recorded capacity t) (
   planted-depth room = rw (k .count)
       (join-depth (recorded-depth r small) joins under (omega arith) (λ x l. k .old x l .sameDepth) (k .new .depthBelow) (k .new .depthFirst))
 
-  old-or : (x : ℕ) → x < d .count → (x < t .count) ⊎ (x ≡ t .count)
-  old-or x l = elim (decLt x (t .count)) [ yes y ↦ inl y | no n ↦ inr (omega (arith, k .count)) ]
-
   -- Child links
 
   child-kept : {v c : ℕ} → Child t v c → Child d v c
@@ -96,7 +97,7 @@ module _ {capacity : ℕ} {t d : Table} {g : Growth} (r : Recorded capacity t) (
 
   -- a child of v after the growth was one before, or is the new row
   child-old : {v c : ℕ} → Child d v c → Child t v c ⊎ ((c ≡ t .count) × (parentOf t g ≡ v))
-  child-old {v} {c} h = elim (old-or c (h .inUse)) [
+  child-old {v} {c} h = elim (old-or-new k c (h .inUse)) [
     | inl l ↦ inl record { inUse = l; parent = sym (k .old c l .sameParent) ∙ h .parent }
     | inr e ↦ inr (e, sym (k .new .parentIs) ∙ ap (parent d) (sym e) ∙ h .parent)
   ]
@@ -209,7 +210,7 @@ module _ {capacity : ℕ} {t d : Table} {g : Growth} (r : Recorded capacity t) (
       ]
 
   pub planted-links : (x : ℕ) → x < d .count → ChildLinks d x
-  planted-links x l = elim (old-or x l) [ inl i ↦ links-old x i | inr e ↦ rw e links-new ]
+  planted-links x l = elim (old-or-new k x l) [ inl i ↦ links-old x i | inr e ↦ rw e links-new ]
 
 -- The line from node 0 to the root: a leaf leaves it as it is, a new root is put at its end
 
@@ -285,14 +286,14 @@ module _ {capacity : ℕ} {t d : Table} (r : Recorded capacity t) (small : capac
     noRoot = λ e. absurd (omega (arith, k .count));
     root = λ _. root-in a k;
     first = λ _. first;
-    smaller = λ x l i. elim (old-or r small a k x l) [
+    smaller = λ x l i. elim (old-or-new k x l) [
       | inl o ↦ rw (k .old x o .sameParent) (r .smaller x o i)
       | inr e ↦ rw (e, k .new .parentIs) (under r small a k (under-some r small a k (omega arith)))
     ];
     depth = λ x l. record { first = tree .root x l; below = tree .step x l };
-    level = λ x l. elim (old-or r small a k x l) [ inl o ↦ level-old a k x o | inr e ↦ rw e (level-new a k) ];
+    level = λ x l. elim (old-or-new k x l) [ inl o ↦ level-old a k x o | inr e ↦ rw e (level-new a k) ];
     children = planted-links r small a k;
-    label = λ x l. elim (old-or r small a k x l) [ inl o ↦ label-old a k x o | inr e ↦ rw e (label-new a k) ];
+    label = λ x l. elim (old-or-new k x l) [ inl o ↦ label-old a k x o | inr e ↦ rw e (label-new a k) ];
   }
     where
       tree : DepthOf (parent d) (depth d) (d .count)
