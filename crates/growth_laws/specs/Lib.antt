@@ -6,3 +6,8 @@ pub mod Trees
 pub mod PlantedLaws
 pub mod Ready
 pub mod InsertedLaws
+pub mod RebuiltLaws
+pub mod RoomLaws
+pub mod RenumberedLaws
+pub mod Grown
+pub mod GrowthKeepsRules
