@@ -11,3 +11,7 @@ pub mod RoomLaws
 pub mod RenumberedLaws
 pub mod Grown
 pub mod GrowthKeepsRules
+pub mod HeadLaws
+pub mod Chains
+pub mod Lag
+pub mod GrowthPays
