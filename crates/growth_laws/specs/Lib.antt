@@ -15,3 +15,4 @@ pub mod HeadLaws
 pub mod Chains
 pub mod Lag
 pub mod GrowthPays
+pub mod GrowthPlain
