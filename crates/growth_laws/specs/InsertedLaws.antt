@@ -142,7 +142,7 @@ module _ {capacity : ℕ} {t m : Table} {g : Growth} (r : Rules capacity t) (sma
     low-old = rw (k .old x l .sameUpper) (omega (arith, k .old x l .sameStart, p-old (upper t x) upper-in, r .five .inside x l .low upper-was))
 
     high-old : end m x ≤ nextFree m (upper m x)
-    high-old = rw (k .old x l .sameUpper) (omega (arith, end-old x l, k .old (upper t x) upper-in .sameNextFree, r .five .inside x l .high upper-was))
+    high-old = rw (k .old x l .sameUpper) (omega (arith, end-old x l, k .nextFreeOld (upper t x) upper-in, r .five .inside x l .high upper-was))
 
   -- the new row, of set size 0, adds nothing to the sum of its compressed parent
   sum-old : (u : ℕ) → childSum (upper m) (λ w. fourth (setSize m w)) (m .count) u ≡ childSum (upper t) (λ w. fourth (setSize t w)) (t .count) u
@@ -182,7 +182,7 @@ module _ {capacity : ℕ} {t m : Table} {g : Growth} (r : Rules capacity t) (sma
     };
     small = small-old x l;
     inside = record { low = low-old x l; high = high-old x l };
-    dense = rw (sum-old x) (omega (arith, k .old x l .sameNextFree, p-old x l, r .five .dense x l));
+    dense = rw (sum-old x) (omega (arith, k .nextFreeOld x l, p-old x l, r .five .dense x l));
     first = λ e. k .old x l .sameStart ∙ node-0 (sym (parent-old x l) ∙ e);
     entries = λ i b. rw (k .old x l .sameEntry i b) (entry-old l (r .six x l i b));
   }
@@ -263,7 +263,7 @@ module _ {capacity : ℕ} {t m : Table} {g : Growth} (r : Rules capacity t) (sma
             rw (u-child .over) at (r .five .inside w (u-child .inside) .low n),
             rw (u-child .over) at (r .five .inside w (u-child .inside) .high n),
             p-old (upper m h) u-old,
-            k .old (upper m h) u-old .sameNextFree,
+            k .nextFreeOld (upper m h) u-old,
           )
 
     head-apex : Apex (parent m) (path m) h

@@ -16,3 +16,5 @@ pub mod Chains
 pub mod Lag
 pub mod GrowthPays
 pub mod GrowthPlain
+pub mod GrowthFrame
+pub mod SmallNumbers
