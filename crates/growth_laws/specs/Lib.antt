@@ -16,5 +16,6 @@ pub mod Chains
 pub mod Lag
 pub mod GrowthPays
 pub mod GrowthPlain
-pub mod GrowthFrame
+pub mod FrameLaws
+pub mod Frame
 pub mod SmallNumbers

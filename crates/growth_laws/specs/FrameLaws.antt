@@ -1,36 +1,26 @@
--- What a growth leaves as it was: outside the head's rows only the places that 01 names change.
-use mathlib.Core.Path.{_≡_, sym, _∙_}
+-- A growth changes what the frame says, and the head's rows are as the frame says.
+use mathlib.Core.Path.{_≡_, ap, sym, _∙_}
 use mathlib.Core.Logic.{inl, inr, _≢_}
-use Prim.Native.Nat.{ℕ, suc, _+_, _≤_, _<_}
+use Prim.Native.Nat.{ℕ, _+_, _*_, _≤_, _<_}
 use native.Mathlib.Omega.{arith}
-use Rattle.tree_laws.specs.Ancestor.{none, Anc}
-use Rattle.tree_laws.specs.AncestorLaws.{trans, linear, anc-in, anc-copy}
+use Rattle.tree_laws.specs.Ancestor.{none, Anc, Forest}
+use Rattle.tree_laws.specs.AncestorLaws.{trans, linear, anc-in, anc-copy, anc-back}
+use Rattle.tree_laws.specs.Size.{size as sizeIn}
+use Rattle.tree_laws.specs.SizeLaws.{size-same}
 use Rattle.span.specs.Constants.{capacity as most}
-use Rattle.rows.specs.Table.{Table, upper, size, nextFree}
-use Rattle.rows.specs.Spans.{end}
+use Rattle.rows.specs.Table.{Table, parent, depth, upper, size, setSize}
 use Rattle.rows.specs.Rules.{Rules}
-use Rattle.growth_laws.specs.Growth.{Growth, parentOf, rootOf}
-use Rattle.growth_laws.specs.Inserted.{SameNode, LinksAfter, Planted, SamePlace}
-use Rattle.growth_laws.specs.Renumbered.{Below}
+use Rattle.growth_laws.specs.Growth.{Growth}
+use Rattle.growth_laws.specs.Inserted.{Planted, SamePlace}
+use Rattle.growth_laws.specs.Renumbered.{Below, rows}
 use Rattle.growth_laws.specs.Grown.{Grown}
+use Rattle.growth_laws.specs.Frame.{Frame, HeadRows}
 use Rattle.growth_laws.specs.Ready.{Ready}
-use Rattle.growth_laws.specs.Trees.{stored, stored-anc}
+use Rattle.growth_laws.specs.Trees.{stored, stored-anc, recorded-forest}
+use Rattle.growth_laws.specs.InsertedLaws.{new-in}
 use Rattle.growth_laws.specs.RebuiltLaws.{agree-swap, agree-over}
-use Rattle.growth_laws.specs.RenumberedLaws.{agree}
-use Rattle.growth_laws.specs.GrowthKeepsRules.{grown-planted, grown-ready}
-
--- the new row, the root and the child links of its parent and its last child aside, every row keeps its node; outside the head's rows each keeps its
--- place too, sizes grow by 1 above the head, and next free moves at the head's compressed parent
-pub record Frame (t d : Table) (g : Growth) (h : ℕ) : Type 0 where
-  pub count : d .count ≡ suc (t .count)
-  pub root : d .root ≡ rootOf t g
-  pub node : (x : ℕ) → x < t .count → SameNode t d x
-  pub links : (x : ℕ) → x < t .count → LinksAfter t d (parentOf t g) (t .count) x
-  pub place : (x : ℕ) → x < t .count → ¬ Below d h x → SamePlace t d x
-  pub sizeAbove : (x : ℕ) → x < t .count → ¬ Below d h x → Anc (upper d) x h → size d x ≡ size t x + 1
-  pub sizeRest : (x : ℕ) → x < t .count → ¬ Below d h x → ¬ Anc (upper d) x h → size d x ≡ size t x
-  pub nextFreeAbove : upper d h ≢ none → nextFree d (upper d h) ≡ end d h
-  pub nextFreeRest : (x : ℕ) → x < t .count → ¬ Below d h x → x ≢ upper d h → nextFree d x ≡ nextFree t x
+use Rattle.growth_laws.specs.RenumberedLaws.{agree, head-rows, head-size}
+use Rattle.growth_laws.specs.GrowthKeepsRules.{grown-planted, grown-ready, growth-keeps-rules}
 
 module _ {capacity : ℕ} {t d : Table} {g : Growth} {h : ℕ} (r : Rules capacity t) (small : capacity ≤ most) (room : t .count < capacity) (k : Grown t d g h) where
   set : Ready (k .between) h
@@ -39,12 +29,21 @@ module _ {capacity : ℕ} {t d : Table} {g : Growth} {h : ℕ} (r : Rules capaci
   planted : Planted t d g
   planted = grown-planted k
 
+  tree : Forest (parent (k .between)) (depth (k .between)) (k .between .count)
+  tree = stored (set .trees)
+
   inside : {x : ℕ} → x < t .count → x < k .between .count
   inside l = omega (arith, k .inserted .planted .count)
 
-  -- outside the head's rows, before it is renumbered and after
+  -- the stored tree is the same before the head is renumbered and after
+  anc-after : {a x : ℕ} → x < k .between .count → Anc (parent (k .between)) a x → Anc (parent d) a x
+  anc-after l = anc-copy (λ y q. k .renumbered .tree .node y (anc-in tree l q) .sameParent)
+
+  anc-before : {a x : ℕ} → x < k .between .count → Anc (parent d) a x → Anc (parent (k .between)) a x
+  anc-before l = anc-back (λ y q. k .renumbered .tree .node y (anc-in tree l q) .sameParent)
+
   outside : {x : ℕ} → x < t .count → ¬ Below d h x → ¬ Below (k .between) h x
-  outside l o b = o (anc-copy (λ y q. k .renumbered .tree .node y (anc-in (stored (set .trees)) (inside l) q) .sameParent) b)
+  outside l o b = o (anc-after (inside l) b)
 
   place : (x : ℕ) → x < t .count → ¬ Below (k .between) h x → SamePlace t d x
   place x l o =
@@ -83,3 +82,23 @@ module _ {capacity : ℕ} {t d : Table} {g : Growth} {h : ℕ} (r : Rules capaci
     nextFreeRest = λ x l o n.
         k .renumbered .nextFreeOut x (inside l) (outside l o) (λ z. n (z ∙ sym (k .renumbered .built .upperHead))) ∙ k .inserted .nextFreeOld x l;
   }
+
+  rows-after : rows d h ≡ rows (k .between) h
+  rows-after =
+      let e : d .count ≡ k .between .count = k .renumbered .tree .count in
+      ap (λ (n : ℕ). sizeIn (parent d) (depth d) n h) e
+      ∙ size-same (rw e at (recorded-forest (growth-keeps-rules r small room k .one) small)) tree h (λ x l. anc-before l) (λ x l. anc-after l)
+
+  pub growth-head : HeadRows t d h
+  growth-head = record {
+    inUse = omega (arith, set .inUse, k .renumbered .tree .count);
+    new = anc-after new (stored-anc (set .trees) new (k .head .over));
+    number = rows-after ∙ sym (head-rows set (k .renumbered));
+    set = λ x l b. let i : x < k .between .count = omega (arith, k .renumbered .tree .count) in k .renumbered .setSizes x i (anc-before i b);
+    sizeOld = λ l. head-size set (k .renumbered) ∙ k .inserted .sizeChain h l (k .head .over);
+    sizeNew = λ e. head-size set (k .renumbered) ∙ ap (size (k .between)) e ∙ k .inserted .sizeNew;
+    outgrown = λ l. omega (arith, k .head .due, head-size set (k .renumbered), k .inserted .old h l .sameSetSize);
+  }
+    where
+      new : t .count < k .between .count
+      new = omega (arith, k .inserted .planted .count)
