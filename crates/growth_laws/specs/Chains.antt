@@ -1,5 +1,5 @@
 -- Chains of the compressed tree are short: sizes grow by more than 12/7 from each row to its compressed parent.
-use mathlib.Core.Path.{_≡_, refl, ap, sym, _∙_}
+use mathlib.Core.Path.{_≡_, refl}
 use mathlib.Core.Bool.{Bool, true, false}
 use mathlib.Core.List.{List, [], _∷_}
 use mathlib.Core.Logic.{inl, inr, _≢_}
@@ -8,7 +8,7 @@ use native.Mathlib.Omega.{arith}
 use lib.Dec.{eqb}
 use lib.ListN.{length}
 use Rattle.laws.specs.Test.{Says, holds, fails, says-true, says-false, says-eqb, bit}
-use Rattle.laws.specs.Sum.{sumTo, sum-eq, sum-add, countTo, count-one}
+use Rattle.laws.specs.Sum.{sum-eq, sum-add, countTo, count-one}
 use Rattle.laws.specs.Chain.{Chain, chain-19}
 use Rattle.laws.specs.Ratio.{size-ratio}
 use Rattle.tree_laws.specs.Ancestor.{none, Anc, here, there, Forest, isAncestor}
@@ -77,7 +77,8 @@ module _ {capacity : ℕ} {t : Table} (r : Rules capacity t) (small : capacity �
       (λ x l h s. let u : upper t x < t .count = f .inside x l h in record {
         list = size t (upper t x) ∷ s .list;
         grow = (
-          size-ratio (size t x) (size t (upper t x)) (setSize t x) (setSize t (upper t x)) (r .three x l .most) (r .three (upper t x) u .growth) (r .four x l h),
+          size-ratio (size t x) (size t (upper t x)) (setSize t x) (setSize t (upper t x)) (r .three x l .most)
+              (r .three (upper t x) u .growth) (r .four x l h),
           within x l,
           s .grow,
         );

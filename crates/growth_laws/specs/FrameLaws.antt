@@ -1,14 +1,14 @@
 -- A growth changes what the frame says, and the head's rows are as the frame says.
 use mathlib.Core.Path.{_≡_, ap, sym, _∙_}
-use mathlib.Core.Logic.{inl, inr, _≢_}
-use Prim.Native.Nat.{ℕ, _+_, _*_, _≤_, _<_}
+use mathlib.Core.Logic.{inl, inr}
+use Prim.Native.Nat.{ℕ, _≤_, _<_}
 use native.Mathlib.Omega.{arith}
-use Rattle.tree_laws.specs.Ancestor.{none, Anc, Forest}
+use Rattle.tree_laws.specs.Ancestor.{Anc, Forest}
 use Rattle.tree_laws.specs.AncestorLaws.{trans, linear, anc-in, anc-copy, anc-back}
 use Rattle.tree_laws.specs.Size.{size as sizeIn}
 use Rattle.tree_laws.specs.SizeLaws.{size-same}
 use Rattle.span.specs.Constants.{capacity as most}
-use Rattle.rows.specs.Table.{Table, parent, depth, upper, size, setSize}
+use Rattle.rows.specs.Table.{Table, parent, depth, upper, size}
 use Rattle.rows.specs.Rules.{Rules}
 use Rattle.growth_laws.specs.Growth.{Growth}
 use Rattle.growth_laws.specs.Inserted.{Planted, SamePlace}
@@ -17,12 +17,12 @@ use Rattle.growth_laws.specs.Grown.{Grown}
 use Rattle.growth_laws.specs.Frame.{Frame, HeadRows}
 use Rattle.growth_laws.specs.Ready.{Ready}
 use Rattle.growth_laws.specs.Trees.{stored, stored-anc, recorded-forest}
-use Rattle.growth_laws.specs.InsertedLaws.{new-in}
 use Rattle.growth_laws.specs.RebuiltLaws.{agree-swap, agree-over}
 use Rattle.growth_laws.specs.RenumberedLaws.{agree, head-rows, head-size}
 use Rattle.growth_laws.specs.GrowthKeepsRules.{grown-planted, grown-ready, growth-keeps-rules}
 
-module _ {capacity : ℕ} {t d : Table} {g : Growth} {h : ℕ} (r : Rules capacity t) (small : capacity ≤ most) (room : t .count < capacity) (k : Grown t d g h) where
+module _ {capacity : ℕ} {t d : Table} {g : Growth} {h : ℕ} (r : Rules capacity t) (small : capacity ≤ most) (room : t .count < capacity)
+    (k : Grown t d g h) where
   set : Ready (k .between) h
   set = grown-ready r small room k
 

@@ -1,7 +1,7 @@
 -- Growth pays for itself: the rows renumbered so far are at most 120 times the rows of the table.
-use mathlib.Core.Path.{_≡_, refl, ap, sym}
+use mathlib.Core.Path.{_≡_, refl, ap}
 use mathlib.Core.Logic.{_≢_}
-use Prim.Native.Nat.{ℕ, suc, _+_, _-_, _*_, _≤_, _<_}
+use Prim.Native.Nat.{ℕ, _+_, _-_, _*_, _≤_, _<_}
 use native.Mathlib.Decide.{decLt, ℕ-discrete}
 use native.Mathlib.Omega.{arith}
 use lib.Dec.{eqb}
@@ -10,7 +10,7 @@ use Rattle.laws.specs.Sum.{sumTo, sum-le, sum-add, sum-one-le}
 use Rattle.tree_laws.specs.Ancestor.{none, here, there, Forest, isAncestor}
 use Rattle.tree_laws.specs.AncestorLaws.{decAnc, says-isAncestor}
 use Rattle.span.specs.Constants.{capacity as most}
-use Rattle.rows.specs.Table.{Table, parent, depth, upper, size, setSize}
+use Rattle.rows.specs.Table.{Table, depth, upper, size, setSize}
 use Rattle.rows.specs.Rules.{Rules}
 use Rattle.growth_laws.specs.Growth.{Growth}
 use Rattle.growth_laws.specs.Renumbered.{Below, rows}
@@ -108,7 +108,8 @@ module _ {capacity : ℕ} {t d : Table} {g : Growth} {h : ℕ} (r : Rules capaci
 
 -- A growth
 
-module _ {capacity : ℕ} {t d : Table} {g : Growth} {h : ℕ} (r : Rules capacity t) (small : capacity ≤ most) (room : t .count < capacity) (k : Grown t d g h) where
+module _ {capacity : ℕ} {t d : Table} {g : Growth} {h : ℕ} (r : Rules capacity t) (small : capacity ≤ most) (room : t .count < capacity)
+    (k : Grown t d g h) where
   -- the rows that it renumbers, the head and all below it in the stored tree, are paid for by the lag and 120 more
   pub growth-pays : worth * lag d + rows d h ≤ worth * lag t + perRow
   growth-pays = frame-pays r (growth-keeps-rules r small room k) small (growth-frame r small room k) (growth-head r small room k)

@@ -41,26 +41,32 @@ module _ {capacity : ℕ} {t d : Table} (r : Recorded capacity t) (small : capac
   after : {g : Growth} → Named t g → Planted t d g → Forest (parent d) (depth d) (d .count)
   after a k = recorded-forest (growth-recorded r small a k room) small
 
+  more : {g : Growth} → Planted t d g → t .count ≤ d .count
+  more k = omega (arith, k .count)
+
+  new : {g : Growth} → Planted t d g → t .count < d .count
+  new k = omega (arith, k .count)
+
   plain-old : {g : Growth} → Named t g → Planted t d g → (x : ℕ) → x < t .count → plain d x ≡ plainOld t g x
   plain-old (named-leaf {v} {f} i j h) k x l =
       let a : Named t (leaf v f) = named-leaf i j h in
-      rw (k .root) (leaf-plain-same (recorded-forest r small) (after a k) (joins r small a k) (omega (arith, k .count)) (omega (arith, k .count)) (r .root (omega arith)) x l)
+      rw (k .root) (leaf-plain-same (recorded-forest r small) (after a k) (joins r small a k) (more k) (new k) (r .root (omega arith)) x l)
   plain-old named-root k x l =
       let b = joins r small named-root k in
       let n : t .root < t .count = r .root (omega arith) in
       rw (k .root) (elim (ℕ-discrete x (t .root)) [
         | yes e ↦ rw (e, says-true (says-eqb (t .root) (t .root)) refl)
-            (root-plain-old (recorded-forest r small) (after named-root k) b (omega (arith, k .count)) (omega (arith, k .count)) n)
+            (root-plain-old (recorded-forest r small) (after named-root k) b (more k) (new k) n)
         | no o ↦ rw (says-false (says-eqb x (t .root)) o)
-            (root-plain-same (recorded-forest r small) (after named-root k) b (omega (arith, k .count)) (omega (arith, k .count)) n x l o)
+            (root-plain-same (recorded-forest r small) (after named-root k) b (more k) (new k) n x l o)
       ])
 
   plain-new : {g : Growth} → Named t g → Planted t d g → plain d (t .count) ≡ plainNew g
   plain-new (named-leaf {v} {f} i j h) k =
       let a : Named t (leaf v f) = named-leaf i j h in
-      rw (k .root) (leaf-plain-new (recorded-forest r small) (after a k) (joins r small a k) (omega (arith, k .count)) (omega (arith, k .count)) (r .root (omega arith)))
+      rw (k .root) (leaf-plain-new (recorded-forest r small) (after a k) (joins r small a k) (more k) (new k) (r .root (omega arith)))
   plain-new named-root k =
-      rw (k .root) (root-plain-new (recorded-forest r small) (after named-root k) (joins r small named-root k) (omega (arith, k .count)) (omega (arith, k .count)))
+      rw (k .root) (root-plain-new (recorded-forest r small) (after named-root k) (joins r small named-root k) (more k) (new k))
 
   pub planted-plain : {g : Growth} → Named t g → Planted t d g → PlainStep t d g
   planted-plain a k = record {

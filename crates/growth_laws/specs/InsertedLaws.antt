@@ -1,8 +1,8 @@
 -- With the new row put in, rule 2 holds again, and the head is ready to be renumbered.
 use mathlib.Core.Path.{_≡_, refl, ap, sym, _∙_}
-use mathlib.Core.Logic.{_⊎_, inl, inr, _≢_}
+use mathlib.Core.Logic.{inl, inr, _≢_}
 use Prim.Native.Nat.{ℕ, suc, _+_, _*_, _≤_, _<_}
-use native.Mathlib.Decide.{decLt, ℕ-discrete}
+use native.Mathlib.Decide.{ℕ-discrete}
 use native.Mathlib.Omega.{arith}
 use Rattle.laws.specs.Fourth.{fourth, fourth-zero}
 use Rattle.tree_laws.specs.Ancestor.{none, Anc, here, there, Forest}
@@ -11,22 +11,22 @@ use Rattle.tree_laws.specs.Compressed.{Apex, PathChild, Compressed, UpperStep}
 use Rattle.tree_laws.specs.CompressedLaws.{from-step, compressed-forest}
 use Rattle.tree_laws.specs.DepthLaws.{depth-forest}
 use Rattle.tree_laws.specs.Join.{Joins}
-use Rattle.tree_laws.specs.JoinLaws.{anc-kept, anc-old, new-not-over, size-over, size-other, size-new}
+use Rattle.tree_laws.specs.JoinLaws.{new-not-over, size-over, size-other, size-new}
 use Rattle.tree_laws.specs.Size.{size as sizeIn, childSum}
 use Rattle.tree_laws.specs.SizeLaws.{size-children, ChildOf, childSum-some, childSum-same, childSum-last}
 use Rattle.span.specs.Constants.{growthUp, growthDown, capacity as most}
 use Rattle.rows.specs.Table.{Table, parent, depth, upper, path, size, setSize, start, nextFree}
-use Rattle.rows.specs.CompressedTree.{SmallChild}
-use Rattle.rows.specs.Spans.{p, end, reach}
-use Rattle.rows.specs.Entries.{BelowPower, Entry, absent, highest}
+use Rattle.rows.specs.Spans.{p, end}
+use Rattle.rows.specs.Entries.{Entry}
 use Rattle.rows.specs.Rules.{Rules}
 use Rattle.growth_laws.specs.Growth.{Growth, Named, parentOf}
 use Rattle.growth_laws.specs.Inserted.{Inserted}
 use Rattle.growth_laws.specs.Head.{Head}
 use Rattle.growth_laws.specs.Renumbered.{Below}
+use Rattle.growth_laws.specs.EntryLaws.{entry-copy}
 use Rattle.growth_laws.specs.Ready.{Settled, Ready}
-use Rattle.growth_laws.specs.Trees.{OwnTrees, own-trees, stored, uppers, upper-step, upper-apex, upper-parent, stored-anc}
-use Rattle.growth_laws.specs.PlantedLaws.{under, joins, planted-depth, old-or-new}
+use Rattle.growth_laws.specs.Trees.{OwnTrees, own-trees, stored, uppers, upper-step, upper-apex, stored-anc}
+use Rattle.growth_laws.specs.PlantedLaws.{under, planted-depth, old-or-new}
 
 module _ {capacity : ℕ} {t m : Table} {g : Growth} (r : Rules capacity t) (small : capacity ≤ most) (room : t .count < capacity)
     (a : Named t g) (k : Inserted t m g) where
@@ -110,7 +110,10 @@ module _ {capacity : ℕ} {t m : Table} {g : Growth} (r : Rules capacity t) (sma
   -- Rules 3 to 6 at the old rows, but that they may be due
 
   size-grows : (x : ℕ) → x < t .count → size t x ≤ size m x
-  size-grows x l = elim (decAnc (uppers inserted-trees) x (t .count) new-in) [ yes q ↦ omega (arith, k .sizeChain x l q) | no n ↦ omega (arith, k .sizeRest x l n) ]
+  size-grows x l = elim (decAnc (uppers inserted-trees) x (t .count) new-in) [
+    | yes q ↦ omega (arith, k .sizeChain x l q)
+    | no n ↦ omega (arith, k .sizeRest x l n)
+  ]
 
   p-old : (x : ℕ) → x < t .count → p m x ≡ p t x
   p-old x l = omega (arith, k .old x l .sameStart, ap fourth (k .old x l .sameSetSize))
@@ -157,21 +160,7 @@ module _ {capacity : ℕ} {t m : Table} {g : Growth} (r : Rules capacity t) (sma
       ))
 
   entry-old : {i x e : ℕ} → x < t .count → Entry t i x e → Entry m i x e
-  entry-old {i} {x} l = go
-    where
-      kept : {b : ℕ} → Anc (upper t) b x → Anc (upper m) b x
-      kept = anc-kept (uppers before) upper-joins l
-
-      back : {b : ℕ} → Anc (upper m) b x → Anc (upper t) b x
-      back = anc-old (uppers before) upper-joins l
-
-      small-is : (b : ℕ) → Anc (upper t) b x → setSize m b ≡ setSize t b
-      small-is b q = k .old b (anc-in (uppers before) l q) .sameSetSize
-
-      go : {e : ℕ} → Entry t i x e → Entry m i x e
-      go (absent f) = absent (λ b q y. f b (back q) (rw (small-is b (back q)) at y))
-      go (highest {b} q y f) = highest (kept q) (rw (small-is b q) y)
-          (λ c s z. anc-kept (uppers before) upper-joins (anc-in (uppers before) l (back s)) (f c (back s) (rw (small-is c (back s)) at z)))
+  entry-old l = entry-copy (λ a q. k .old a (anc-in (uppers before) l q) .sameUpper) (λ a q. k .old a (anc-in (uppers before) l q) .sameSetSize)
 
   settled-old : (x : ℕ) → x < t .count → growthDown * size m x < growthUp * setSize m x → Settled m x
   settled-old x l near = record {

@@ -1,22 +1,19 @@
 -- The stored tree after a growth: its depths, its child links, the line from node 0 to the root, levels and labels. Rule 1 is kept.
 use mathlib.Core.Path.{_≡_, refl, ap, sym, _∙_}
 use mathlib.Core.Logic.{_⊎_, inl, inr, _≢_}
-use Prim.Native.Nat.{ℕ, suc, _+_, _≤_, _<_}
+use Prim.Native.Nat.{ℕ, _+_, _≤_, _<_}
 use native.Mathlib.Decide.{decLt, ℕ-discrete}
 use native.Mathlib.Omega.{arith}
-use lib.IntN.{pos, _+ℤ_, _-ℤ_}
-use lib.Dec.{eqb}
-use Rattle.laws.specs.Test.{says-true, says-false, says-eqb, pick}
-use Rattle.tree_laws.specs.Ancestor.{none, Anc, here, there, Forest}
-use Rattle.tree_laws.specs.AncestorLaws.{cases}
+use Rattle.laws.specs.Test.{says-true, says-false, says-eqb}
+use Rattle.tree_laws.specs.Ancestor.{none, here}
 use Rattle.tree_laws.specs.Depth.{Depth as DepthOf}
 use Rattle.tree_laws.specs.Join.{Joins}
 use Rattle.tree_laws.specs.JoinLaws.{anc-kept, anc-old, new-not-over, anc-new, new-anc, join-depth}
 use Rattle.span.specs.Constants.{capacity as most}
 use Rattle.rows.specs.Table.{Table, parent, depth, label, level}
-use Rattle.rows.specs.StoredTree.{Child, FirstFrom, absent, least, LastOf, greatest, ChildLinks, OnLine, Level, labelLimit, Label, Depth}
+use Rattle.rows.specs.StoredTree.{Child, FirstFrom, absent, least, LastOf, greatest, ChildLinks, OnLine, Level, Label}
 use Rattle.rows.specs.Rules.{Recorded}
-use Rattle.growth_laws.specs.Growth.{Growth, leaf, root, Named, named-leaf, named-root, parentOf, labelOf, levelOf, rootOf}
+use Rattle.growth_laws.specs.Growth.{Growth, leaf, root, Named, named-leaf, named-root, parentOf}
 use Rattle.growth_laws.specs.Inserted.{SameNode, LinksAfter, Planted}
 use Rattle.growth_laws.specs.Renumbered.{SameLinks, SameTree}
 use Rattle.growth_laws.specs.Trees.{recorded-depth, recorded-forest}

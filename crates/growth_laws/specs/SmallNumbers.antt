@@ -1,7 +1,7 @@
 -- The numbers of a table that passes inspection are small (01, "Every number stays at or below 5 × 2^60"): each is at most 5 n⁴ for n rows.
 use mathlib.Core.Path.{_≡_}
 use mathlib.Core.Logic.{_≢_}
-use Prim.Native.Nat.{ℕ, _+_, _*_, _≤_, _<_}
+use Prim.Native.Nat.{ℕ, _≤_, _<_}
 use native.Mathlib.Decide.{ℕ-discrete}
 use native.Mathlib.Omega.{arith}
 use Rattle.laws.specs.Fourth.{fourth, fourth-le}
@@ -10,7 +10,7 @@ use Rattle.tree_laws.specs.AncestorLaws.{climb}
 use Rattle.span.specs.Constants.{capacity as most, limit}
 use Rattle.span.specs.Numbers.{endOf}
 use Rattle.span.specs.NumberLaws.{limit-span}
-use Rattle.rows.specs.Table.{Table, parent, upper, setSize, nextFree}
+use Rattle.rows.specs.Table.{Table, upper, setSize, nextFree}
 use Rattle.rows.specs.Spans.{end}
 use Rattle.rows.specs.Rules.{Rules}
 use Rattle.growth_laws.specs.Trees.{own-trees, uppers, parent-upper}

@@ -4,13 +4,13 @@ use mathlib.Core.Logic.{inl, inr, _≢_}
 use Prim.Native.Nat.{ℕ, _≤_, _<_}
 use native.Mathlib.Decide.{ℕ-discrete}
 use native.Mathlib.Omega.{arith}
-use Rattle.tree_laws.specs.Ancestor.{none, Anc, there, Forest}
-use Rattle.tree_laws.specs.AncestorLaws.{trans, cases, row-some, anc-in, no-loop, anc-copy, anc-back}
+use Rattle.tree_laws.specs.Ancestor.{none, Anc, Forest}
+use Rattle.tree_laws.specs.AncestorLaws.{trans, cases, row-some, anc-in, no-loop}
 use Rattle.tree_laws.specs.Depth.{Depth}
 use Rattle.tree_laws.specs.DepthLaws.{depth-forest}
 use Rattle.tree_laws.specs.Size.{size as sizeIn}
 use Rattle.tree_laws.specs.SizeLaws.{size-same}
-use Rattle.tree_laws.specs.Compressed.{Apex, Compressed, UpperStep}
+use Rattle.tree_laws.specs.Compressed.{Apex, PathChild, Compressed, UpperStep}
 use Rattle.tree_laws.specs.CompressedLaws.{from-step, to-step, upper-first, upper-over, compressed-forest, to-stored, to-upper}
 use Rattle.span.specs.Constants.{capacity as most}
 use Rattle.rows.specs.Table.{Table, parent, depth, upper, path, size}
@@ -129,8 +129,9 @@ module _ {parent depth parent′ depth′ : ℕ → ℕ} {n : ℕ} {c : Table} (
         root = λ e. upper-step k x l .root (sym (same x l) ∙ e);
         apex = λ h a. upper-step k x l .apex (some h) (apex-same (inside h) (rw (same x l) at a)) ∙ sym (same x l);
         along = λ h o. let q = inside h in
-            upper-step k x l .along (some h) record { some = rw (same x l, same (parent x) q) at (o .some); link = rw (same x l, same (parent x) q) at (o .link) }
-            ∙ rw (same x l);
+            let up : PathChild parent (path c) (parent x) =
+            record { some = rw (same x l, same (parent x) q) at (o .some); link = rw (same x l, same (parent x) q) at (o .link) } in
+            upper-step k x l .along (some h) up ∙ rw (same x l);
       }
         where
           some : parent′ x ≢ none → parent x ≢ none
