@@ -10,8 +10,9 @@ use Rattle.growth_laws.specs.Inserted.{Planted}
 use Rattle.growth_laws.specs.Grown.{Grown}
 use Rattle.growth_laws.specs.Ready.{Ready}
 use Rattle.growth_laws.specs.Trees.{OwnTrees, trees-rule, trees-same, recorded-depth}
-use Rattle.growth_laws.specs.PlantedLaws.{planted-same, growth-recorded}
-use Rattle.growth_laws.specs.InsertedLaws.{ready}
+use Rattle.growth_laws.specs.PlantedLaws.{planted-same}
+use Rattle.growth_laws.specs.GrowthRecorded.{growth-recorded}
+use Rattle.growth_laws.specs.ReadyLaws.{ready}
 use Rattle.growth_laws.specs.RoomLaws.{room-of}
 use Rattle.growth_laws.specs.RenumberedLaws.{renumbered-trees, renumbered-set, renumbered-small}
 use Rattle.growth_laws.specs.RenumberedSpans.{renumbered-inside, renumbered-dense, renumbered-apart, renumbered-first}

@@ -1,41 +1,23 @@
--- What a growth does to the plain tree (01, "Images and plain tree"): a leaf is put under its parent, a new root over the old one.
+-- The plain tree after a growth is the plain tree before it, one step of the plain list on.
 use mathlib.Core.Path.{_≡_, refl}
-use Prim.Native.Nat.{ℕ, suc, _≤_, _<_}
+use Prim.Native.Nat.{ℕ, _≤_, _<_}
 use native.Mathlib.Decide.{ℕ-discrete}
 use native.Mathlib.Omega.{arith}
-use lib.Dec.{eqb}
-use Rattle.laws.specs.Test.{says-true, says-false, says-eqb, pick}
-use Rattle.tree_laws.specs.Ancestor.{none, Forest}
+use Rattle.laws.specs.Test.{says-true, says-false, says-eqb}
+use Rattle.tree_laws.specs.Ancestor.{Forest}
 use Rattle.tree_laws.specs.PlainGrowth.{leaf-plain-same, leaf-plain-new, root-plain-same, root-plain-old, root-plain-new}
 use Rattle.span.specs.Constants.{capacity as most}
-use Rattle.rows.specs.Table.{Table, parent, depth, label}
+use Rattle.rows.specs.Table.{Table, parent, depth}
 use Rattle.rows.specs.PlainTree.{plain}
 use Rattle.rows.specs.Rules.{Recorded, Rules}
-use Rattle.growth_laws.specs.Growth.{Growth, leaf, root, Named, named-leaf, named-root, labelOf, rootOf}
+use Rattle.growth_laws.specs.Growth.{Growth, leaf, root, Named, named-leaf, named-root}
 use Rattle.growth_laws.specs.Inserted.{Planted}
+use Rattle.growth_laws.specs.PlainStep.{plainOld, plainNew, PlainStep}
 use Rattle.growth_laws.specs.Grown.{Grown}
 use Rattle.growth_laws.specs.Trees.{recorded-forest}
-use Rattle.growth_laws.specs.PlantedLaws.{joins, growth-recorded}
+use Rattle.growth_laws.specs.PlantedLaws.{joins}
+use Rattle.growth_laws.specs.GrowthRecorded.{growth-recorded}
 use Rattle.growth_laws.specs.GrowthKeepsRules.{grown-planted}
-
--- the plain parent of the new row
-abbrev pub plainNew : Growth → ℕ
-plainNew (leaf v f) = v
-plainNew root = none
-
--- the plain parent of an old row after the growth: a new root becomes the parent of the old one
-abbrev pub plainOld : Table → Growth → ℕ → ℕ
-plainOld t (leaf v f) x = plain t x
-plainOld t root x = pick (eqb x (t .root)) (t .count) (plain t x)
-
--- the plain tree and the labels of d are those of t after one step of the plain list
-pub record PlainStep (t d : Table) (g : Growth) : Type 0 where
-  pub count : d .count ≡ suc (t .count)
-  pub root : d .root ≡ rootOf t g
-  pub parentOld : (x : ℕ) → x < t .count → plain d x ≡ plainOld t g x
-  pub parentNew : plain d (t .count) ≡ plainNew g
-  pub labelOld : (x : ℕ) → x < t .count → label d x ≡ label t x
-  pub labelNew : label d (t .count) ≡ labelOf g
 
 module _ {capacity : ℕ} {t d : Table} (r : Recorded capacity t) (small : capacity ≤ most) (room : t .count < capacity) where
   after : {g : Growth} → Named t g → Planted t d g → Forest (parent d) (depth d) (d .count)
@@ -50,9 +32,9 @@ module _ {capacity : ℕ} {t d : Table} (r : Recorded capacity t) (small : capac
   plain-old : {g : Growth} → Named t g → Planted t d g → (x : ℕ) → x < t .count → plain d x ≡ plainOld t g x
   plain-old (named-leaf {v} {f} i j h) k x l =
       let a : Named t (leaf v f) = named-leaf i j h in
-      rw (k .root) (leaf-plain-same (recorded-forest r small) (after a k) (joins r small a k) (more k) (new k) (r .root (omega arith)) x l)
+      rw (k .root) (leaf-plain-same (recorded-forest r small) (after a k) (joins r small k) (more k) (new k) (r .root (omega arith)) x l)
   plain-old named-root k x l =
-      let b = joins r small named-root k in
+      let b = joins r small k in
       let n : t .root < t .count = r .root (omega arith) in
       rw (k .root) (elim (ℕ-discrete x (t .root)) [
         | yes e ↦ rw (e, says-true (says-eqb (t .root) (t .root)) refl)
@@ -64,9 +46,9 @@ module _ {capacity : ℕ} {t d : Table} (r : Recorded capacity t) (small : capac
   plain-new : {g : Growth} → Named t g → Planted t d g → plain d (t .count) ≡ plainNew g
   plain-new (named-leaf {v} {f} i j h) k =
       let a : Named t (leaf v f) = named-leaf i j h in
-      rw (k .root) (leaf-plain-new (recorded-forest r small) (after a k) (joins r small a k) (more k) (new k) (r .root (omega arith)))
+      rw (k .root) (leaf-plain-new (recorded-forest r small) (after a k) (joins r small k) (more k) (new k) (r .root (omega arith)))
   plain-new named-root k =
-      rw (k .root) (root-plain-new (recorded-forest r small) (after named-root k) (joins r small named-root k) (more k) (new k))
+      rw (k .root) (root-plain-new (recorded-forest r small) (after named-root k) (joins r small k) (more k) (new k))
 
   pub planted-plain : {g : Growth} → Named t g → Planted t d g → PlainStep t d g
   planted-plain a k = record {
