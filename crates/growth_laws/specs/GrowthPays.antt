@@ -118,9 +118,5 @@ module _ {capacity : ℕ} {t d : Table} {g : Growth} {h : ℕ} (r : Rules capaci
   pub total-kept : (total : ℕ) → Paid t total → Paid d (total + rows d h)
   total-kept total p = omega (arith, growth-pays, growth-frame r small room k .count)
 
-pub total-empty : (t : Table) → t .count ≡ 0 → Paid t 0
-unfolding lag
-total-empty t e = rw e (omega arith)
-
 pub total-most : (t : Table) (total : ℕ) → Paid t total → total ≤ perRow * t .count
 total-most t total p = omega arith

@@ -7,9 +7,9 @@ use native.Mathlib.Omega.{arith}
 use Rattle.tree_laws.specs.Ancestor.{none}
 use Rattle.tree_laws.specs.Depth.{Depth as DepthOf}
 use Rattle.span.specs.Constants.{capacity as most}
-use Rattle.rows.specs.Table.{Table, parent, depth, label, level}
+use Rattle.rows.specs.Table.{Table, parent, depth}
 use Rattle.rows.specs.Rules.{Recorded}
-use Rattle.growth_laws.specs.Growth.{Growth, root, Named, named-leaf, named-root, parentOf}
+use Rattle.growth_laws.specs.Growth.{Growth, Named, named-leaf, named-root, parentOf}
 use Rattle.growth_laws.specs.Inserted.{Planted}
 use Rattle.growth_laws.specs.PlantedLaws.{old-or-new, parent-in, parent-some, planted-depth}
 use Rattle.growth_laws.specs.PlantedLinks.{planted-links}

@@ -7,7 +7,7 @@ use native.Mathlib.Omega.{arith}
 use Rattle.laws.specs.Fourth.{fourth, fourth-zero}
 use Rattle.tree_laws.specs.Ancestor.{none, here, there, Forest}
 use Rattle.tree_laws.specs.AncestorLaws.{trans, anc-in, decAnc}
-use Rattle.tree_laws.specs.Compressed.{Apex, PathChild, Compressed, UpperStep}
+use Rattle.tree_laws.specs.Compressed.{Compressed}
 use Rattle.tree_laws.specs.CompressedLaws.{from-step, compressed-forest}
 use Rattle.tree_laws.specs.DepthLaws.{depth-forest}
 use Rattle.tree_laws.specs.Join.{Joins}
@@ -22,6 +22,7 @@ use Rattle.rows.specs.Rules.{Rules}
 use Rattle.growth_laws.specs.Growth.{Growth, Named}
 use Rattle.growth_laws.specs.Inserted.{Inserted}
 use Rattle.growth_laws.specs.EntryLaws.{entry-copy}
+use Rattle.growth_laws.specs.StepLaws.{Near, step-copy}
 use Rattle.growth_laws.specs.Ready.{Settled}
 use Rattle.growth_laws.specs.Trees.{OwnTrees, own-trees, stored, uppers, upper-step}
 use Rattle.growth_laws.specs.PlantedLaws.{planted-depth, old-or-new}
@@ -45,35 +46,20 @@ module _ {capacity : ℕ} {t m : Table} {g : Growth} (r : Rules capacity t) (sma
   tree : Forest (parent m) (depth m) (m .count)
   tree = depth-forest (planted-depth (r .one) small (k .planted) a room)
 
-  -- an old row is an apex after as before
-  apex-old : {x : ℕ} → x < t .count → Apex (parent m) (path m) x → Apex (parent t) (path t) x
-  apex-old {x} l b i z = b (λ e. i (sym (parent-old x l) ∙ e))
-      (ap (path m) (parent-old x l) ∙ k .old (parent t x) (stored before .inside x l i) .samePath ∙ z)
-
-  path-child-old : {x : ℕ} → x < t .count → PathChild (parent m) (path m) x → PathChild (parent t) (path t) x
-  path-child-old {x} l o =
-      let i : parent t x ≢ none = λ e. o .some (parent-old x l ∙ e) in
-      record { some = i; link = sym (k .old (parent t x) (stored before .inside x l i) .samePath) ∙ ap (path m) (sym (parent-old x l)) ∙ o .link }
-
-  step-old : (x : ℕ) → x < t .count → UpperStep (parent m) (path m) (upper m) x
-  step-old x l = record {
-    root = λ e. k .old x l .sameUpper ∙ was .root (sym (parent-old x l) ∙ e);
-    apex = λ h b. k .old x l .sameUpper ∙ was .apex (some h) (apex-old (inside h) (rw (parent-old x l) at b)) ∙ sym (parent-old x l);
-    along = λ h o. k .old x l .sameUpper ∙ was .along (some h) (path-child-old (inside h) (rw (parent-old x l) at o))
-        ∙ sym (k .old (parent t x) (inside h) .sameUpper) ∙ ap (upper m) (sym (parent-old x l));
+  near-old : (x : ℕ) → x < t .count → Near (parent t) (parent m) (path t) (path m) (upper t) (upper m) x
+  near-old x l = record {
+    sameParent = parent-old x l;
+    sameUpper = k .old x l .sameUpper;
+    aboveParent = λ i. parent-old (parent t x) (inside x l i);
+    aboveUpper = λ i. k .old (parent t x) (inside x l i) .sameUpper;
+    abovePath = λ i j. k .old (parent t (parent t x)) (inside (parent t x) (inside x l i) j) .samePath;
   }
     where
-      was : UpperStep (parent t) (path t) (upper t) x
-      was = upper-step before x l
-
-      some : parent m x ≢ none → parent t x ≢ none
-      some h e = h (parent-old x l ∙ e)
-
-      inside : parent m x ≢ none → parent t x < t .count
-      inside h = stored before .inside x l (some h)
+      inside : (y : ℕ) → y < t .count → parent t y ≢ none → parent t y < t .count
+      inside = stored before .inside
 
   compressed : Compressed (parent m) (path m) (upper m) (m .count)
-  compressed = from-step tree (λ x l. elim (old-or-new (k .planted) x l) [ inl i ↦ step-old x i | inr e ↦ rw e (k .upperNew) ])
+  compressed = from-step tree (λ x l. elim (old-or-new (k .planted) x l) [ inl i ↦ step-copy (near-old x i) (upper-step before x i) | inr e ↦ rw e (k .upperNew) ])
 
   -- the new row joins the compressed tree as a leaf too
   upper-joins : Joins (upper t) (upper m) (t .count) (t .count) (upper m (t .count))

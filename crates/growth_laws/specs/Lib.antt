@@ -6,6 +6,7 @@ pub mod Grown
 pub mod Frame
 pub mod Lag
 pub mod PlainStep
+pub mod StepLaws
 pub mod Trees
 pub mod EntryLaws
 pub mod RoomLaws
@@ -27,3 +28,6 @@ pub mod GrowthKeepsRules
 pub mod FrameLaws
 pub mod GrowthPays
 pub mod GrowthPlain
+pub mod EmptyTable
+pub mod Insert
+pub mod InsertLaws
