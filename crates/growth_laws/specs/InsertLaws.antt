@@ -137,12 +137,15 @@ module _ {capacity : ℕ} (t : Table) (g : Growth) (r : Rules capacity t) (small
   -- the compressed parent of the new row is in use
   under-in : 0 < t .count → upperUnder t (parentOf t g) < t .count
   under-in y = elim (apex-or (parent t) (path t) (parentOf t g)) [
-    | inl b ↦ rw (under-apex t some b) (parent-in (r .one) a some)
-    | inr o ↦ rw (under-path t some o) (uppers was .inside (parentOf t g) (parent-in (r .one) a some) (parent-upper was (parentOf t g) (parent-in (r .one) a some) (o .some)))
+    | inl b ↦ rw (under-apex t some b) inside
+    | inr o ↦ rw (under-path t some o) (uppers was .inside (parentOf t g) inside (parent-upper was (parentOf t g) inside (o .some)))
   ]
     where
       some : parentOf t g ≢ none
       some = parent-some (r .one) small a y
+
+      inside : parentOf t g < t .count
+      inside = parent-in (r .one) a some
 
   joins : Joins (upper t) (upper (insert t g)) (t .count) (t .count) (upperUnder t (parentOf t g))
   joins = record { same = λ x l. place t g x l .sameUpper; fresh = omega arith; some = λ e. omega (arith, r .one .count); under = upper-is }
@@ -165,5 +168,9 @@ module _ {capacity : ℕ} (t : Table) (g : Growth) (r : Rules capacity t) (small
           | inr p ↦ omega (arith, grows x l, ap bit (says-true (says-isAncestor (uppers was) x (upperUnder t (parentOf t g)) i) p))
         ];
     sizeRest = λ x l n. let i : upperUnder t (parentOf t g) < t .count = under-in (omega arith) in
-        omega (arith, grows x l, ap bit (says-false (says-isAncestor (uppers was) x (upperUnder t (parentOf t g)) i) (λ p. n (anc-new (uppers was) joins i p))));
+        omega (
+          arith,
+          grows x l,
+          ap bit (says-false (says-isAncestor (uppers was) x (upperUnder t (parentOf t g)) i) (λ p. n (anc-new (uppers was) joins i p))),
+        );
   }

@@ -59,7 +59,10 @@ module _ {capacity : ℕ} {t m : Table} {g : Growth} (r : Rules capacity t) (sma
       inside = stored before .inside
 
   compressed : Compressed (parent m) (path m) (upper m) (m .count)
-  compressed = from-step tree (λ x l. elim (old-or-new (k .planted) x l) [ inl i ↦ step-copy (near-old x i) (upper-step before x i) | inr e ↦ rw e (k .upperNew) ])
+  compressed = from-step tree (λ x l. elim (old-or-new (k .planted) x l) [
+    | inl i ↦ step-copy (near-old x i) (upper-step before x i)
+    | inr e ↦ rw e (k .upperNew)
+  ])
 
   -- the new row joins the compressed tree as a leaf too
   upper-joins : Joins (upper t) (upper m) (t .count) (t .count) (upper m (t .count))
