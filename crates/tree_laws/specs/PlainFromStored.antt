@@ -53,7 +53,7 @@ module _ {parent rank : ℕ → ℕ} {n r : ℕ} (t : Forest parent rank n) (l :
   ]
 
   module _ {x y a b c : ℕ} (i : x < n) (j : y < n) (xr : Nca parent x r b) (yr : Nca parent y r c) where
-    -- a row between x and y and r is the plain nearest common ancestor
+    -- a row on both ways to r, over x or y and not above a, is the plain nearest common ancestor
     plain-nca : (xy : Nca parent x y a) {m : ℕ} → m < n → Kindred parent m r → OnWay parent r x m → OnWay parent r y m → Anc parent a m
         → Anc parent m x ⊎ Anc parent m y → Nca (plainParent parent rank r) x y m
     plain-nca xy {m} k o p q u s = record {
