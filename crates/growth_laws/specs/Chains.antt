@@ -14,7 +14,7 @@ use Rattle.laws.specs.Ratio.{size-ratio}
 use Rattle.tree_laws.specs.Ancestor.{none, Anc, here, there, Forest, isAncestor}
 use Rattle.tree_laws.specs.AncestorLaws.{cases, climb, no-loop, says-isAncestor}
 use Rattle.tree_laws.specs.Size.{size as sizeIn}
-use Rattle.span.specs.Constants.{capacity as most}
+use Rattle.rows.specs.Capacity.{capacityLimit}
 use Rattle.rows.specs.Table.{Table, depth, upper, size, setSize}
 use Rattle.rows.specs.Rules.{Rules}
 use Rattle.growth_laws.specs.Trees.{own-trees, uppers}
@@ -64,10 +64,10 @@ size-count up rank n a = within n
 -- the sizes above x, each more than 12/7 of the one before
 record Sizes (t : Table) (x : ℕ) : Type 0 where
   list : List ℕ
-  grow : Chain most (size t x) list
+  grow : Chain capacityLimit (size t x) list
   counts : above (upper t) (depth t) (t .count) x ≡ suc (length list)
 
-module _ {capacity : ℕ} {t : Table} (r : Rules capacity t) (small : capacity ≤ most) where
+module _ {capacity : ℕ} {t : Table} (r : Rules capacity t) (small : capacity ≤ capacityLimit) where
   pub size-most : (x : ℕ) → x < t .count → size t x ≤ t .count
   size-most x l = omega (arith, r .two .size x l, size-count (upper t) (depth t) (t .count) x)
 
@@ -88,7 +88,7 @@ module _ {capacity : ℕ} {t : Table} (r : Rules capacity t) (small : capacity �
       f : Forest (upper t) (depth t) (t .count)
       f = uppers (own-trees r small)
 
-      within : (x : ℕ) → x < t .count → size t x ≤ most
+      within : (x : ℕ) → x < t .count → size t x ≤ capacityLimit
       within x l = omega (arith, size-most x l, r .one .count)
 
   -- a row with another below it has at most 19 rows at or above it

@@ -7,7 +7,7 @@ use Rattle.tree_laws.specs.Ancestor.{Anc, Forest}
 use Rattle.tree_laws.specs.AncestorLaws.{trans, linear, anc-in, anc-copy, anc-back}
 use Rattle.tree_laws.specs.Size.{size as sizeIn}
 use Rattle.tree_laws.specs.SizeLaws.{size-same}
-use Rattle.span.specs.Constants.{capacity as most}
+use Rattle.rows.specs.Capacity.{capacityLimit}
 use Rattle.rows.specs.Table.{Table, parent, depth, upper, size}
 use Rattle.rows.specs.Rules.{Rules}
 use Rattle.growth_laws.specs.Growth.{Growth}
@@ -21,7 +21,7 @@ use Rattle.growth_laws.specs.RebuiltLaws.{agree-swap, agree-over}
 use Rattle.growth_laws.specs.RenumberedLaws.{agree, head-rows, head-size}
 use Rattle.growth_laws.specs.GrowthKeepsRules.{grown-planted, grown-ready, growth-keeps-rules}
 
-module _ {capacity : ℕ} {t d : Table} {g : Growth} {h : ℕ} (r : Rules capacity t) (small : capacity ≤ most) (room : t .count < capacity)
+module _ {capacity : ℕ} {t d : Table} {g : Growth} {h : ℕ} (r : Rules capacity t) (small : capacity ≤ capacityLimit) (room : t .count < capacity)
     (k : Grown t d g h) where
   set : Ready (k .between) h
   set = grown-ready r small room k

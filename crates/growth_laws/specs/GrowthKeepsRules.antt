@@ -2,7 +2,7 @@
 use mathlib.Core.Path.{_≡_, sym, _∙_}
 use Prim.Native.Nat.{ℕ, _≤_, _<_}
 use native.Mathlib.Omega.{arith}
-use Rattle.span.specs.Constants.{capacity as most}
+use Rattle.rows.specs.Capacity.{capacityLimit}
 use Rattle.rows.specs.Table.{Table}
 use Rattle.rows.specs.Rules.{Recorded, Rules}
 use Rattle.growth_laws.specs.Growth.{Growth}
@@ -22,7 +22,7 @@ use Rattle.growth_laws.specs.RenumberedEntries.{renumbered-entries}
 pub grown-planted : {t d : Table} {g : Growth} {h : ℕ} → Grown t d g h → Planted t d g
 grown-planted k = planted-same (k .inserted .planted) (k .renumbered .tree)
 
-module _ {capacity : ℕ} {t d : Table} {g : Growth} {h : ℕ} (r : Rules capacity t) (small : capacity ≤ most) (room : t .count < capacity)
+module _ {capacity : ℕ} {t d : Table} {g : Growth} {h : ℕ} (r : Rules capacity t) (small : capacity ≤ capacityLimit) (room : t .count < capacity)
     (k : Grown t d g h) where
   pub grown-ready : Ready (k .between) h
   grown-ready = ready r small room (k .named) (k .inserted) (k .head)

@@ -9,7 +9,7 @@ use Rattle.laws.specs.Test.{says-true, says-false, says-eqb, bit}
 use Rattle.laws.specs.Sum.{sumTo, sum-le, sum-add, sum-one-le}
 use Rattle.tree_laws.specs.Ancestor.{none, here, there, Forest, isAncestor}
 use Rattle.tree_laws.specs.AncestorLaws.{decAnc, says-isAncestor}
-use Rattle.span.specs.Constants.{capacity as most}
+use Rattle.rows.specs.Capacity.{capacityLimit}
 use Rattle.rows.specs.Table.{Table, depth, upper, size, setSize}
 use Rattle.rows.specs.Rules.{Rules}
 use Rattle.growth_laws.specs.Growth.{Growth}
@@ -26,7 +26,7 @@ use Rattle.growth_laws.specs.Chains.{above, above-root, above-next, chai
 abbrev lagOf : Table → ℕ → ℕ
 lagOf t x = size t x - setSize t x
 
-module _ {capacity : ℕ} {t d : Table} {g : Growth} {h : ℕ} (r : Rules capacity t) (r′ : Rules capacity d) (small : capacity ≤ most)
+module _ {capacity : ℕ} {t d : Table} {g : Growth} {h : ℕ} (r : Rules capacity t) (r′ : Rules capacity d) (small : capacity ≤ capacityLimit)
     (f : Frame t d g h) (w : HeadRows t d h) where
   chains : Forest (upper d) (depth d) (d .count)
   chains = uppers (own-trees r′ small)
@@ -108,7 +108,7 @@ module _ {capacity : ℕ} {t d : Table} {g : Growth} {h : ℕ} (r : Rules capaci
 
 -- A growth
 
-module _ {capacity : ℕ} {t d : Table} {g : Growth} {h : ℕ} (r : Rules capacity t) (small : capacity ≤ most) (room : t .count < capacity)
+module _ {capacity : ℕ} {t d : Table} {g : Growth} {h : ℕ} (r : Rules capacity t) (small : capacity ≤ capacityLimit) (room : t .count < capacity)
     (k : Grown t d g h) where
   -- the rows that it renumbers, the head and all below it in the stored tree, are paid for by the lag and 120 more
   pub growth-pays : worth * lag d + rows d h ≤ worth * lag t + perRow

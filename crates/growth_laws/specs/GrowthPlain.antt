@@ -6,7 +6,7 @@ use native.Mathlib.Omega.{arith}
 use Rattle.laws.specs.Test.{says-true, says-false, says-eqb}
 use Rattle.tree_laws.specs.Ancestor.{Forest}
 use Rattle.tree_laws.specs.PlainGrowth.{leaf-plain-same, leaf-plain-new, root-plain-same, root-plain-old, root-plain-new}
-use Rattle.span.specs.Constants.{capacity as most}
+use Rattle.rows.specs.Capacity.{capacityLimit}
 use Rattle.rows.specs.Table.{Table, parent, depth}
 use Rattle.rows.specs.PlainTree.{plain}
 use Rattle.rows.specs.Rules.{Recorded, Rules}
@@ -19,7 +19,7 @@ use Rattle.growth_laws.specs.PlantedLaws.{joins}
 use Rattle.growth_laws.specs.GrowthRecorded.{growth-recorded}
 use Rattle.growth_laws.specs.GrowthKeepsRules.{grown-planted}
 
-module _ {capacity : ℕ} {t d : Table} (r : Recorded capacity t) (small : capacity ≤ most) (room : t .count < capacity) where
+module _ {capacity : ℕ} {t d : Table} (r : Recorded capacity t) (small : capacity ≤ capacityLimit) (room : t .count < capacity) where
   after : {g : Growth} → Named t g → Planted t d g → Forest (parent d) (depth d) (d .count)
   after a k = recorded-forest (growth-recorded r small a k room) small
 
@@ -60,6 +60,6 @@ module _ {capacity : ℕ} {t d : Table} (r : Recorded capacity t) (small : capac
     labelNew = k .new .labelIs;
   }
 
-pub growth-plain : {capacity : ℕ} {t d : Table} {g : Growth} {h : ℕ} → Rules capacity t → capacity ≤ most → t .count < capacity → Grown t d g h
+pub growth-plain : {capacity : ℕ} {t d : Table} {g : Growth} {h : ℕ} → Rules capacity t → capacity ≤ capacityLimit → t .count < capacity → Grown t d g h
     → PlainStep t d g
 growth-plain r small room k = planted-plain (r .one) small room (k .named) (grown-planted k)

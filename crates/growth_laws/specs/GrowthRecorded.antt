@@ -6,7 +6,7 @@ use native.Mathlib.Decide.{decLt, ℕ-discrete}
 use native.Mathlib.Omega.{arith}
 use Rattle.tree_laws.specs.Ancestor.{none}
 use Rattle.tree_laws.specs.Depth.{Depth as DepthOf}
-use Rattle.span.specs.Constants.{capacity as most}
+use Rattle.rows.specs.Capacity.{capacityLimit}
 use Rattle.rows.specs.Table.{Table, parent, depth}
 use Rattle.rows.specs.Rules.{Recorded}
 use Rattle.growth_laws.specs.Growth.{Growth, Named, named-leaf, named-root, parentOf}
@@ -15,7 +15,7 @@ use Rattle.growth_laws.specs.PlantedLaws.{old-or-new, parent-in, parent-
 use Rattle.growth_laws.specs.PlantedLinks.{planted-links}
 use Rattle.growth_laws.specs.PlantedLine.{level-old, level-new, label-old, label-new}
 
-module _ {capacity : ℕ} {t d : Table} (r : Recorded capacity t) (small : capacity ≤ most) where
+module _ {capacity : ℕ} {t d : Table} (r : Recorded capacity t) (small : capacity ≤ capacityLimit) where
   root-in : {g : Growth} → Named t g → Planted t d g → d .root < d .count
   root-in (named-leaf i j h) k = omega (arith, k .root, k .count, r .root (omega arith))
   root-in named-root k = omega (arith, k .root, k .count)

@@ -12,7 +12,7 @@ use Rattle.tree_laws.specs.Compressed.{Apex, PathChild, UpperStep}
 use Rattle.tree_laws.specs.CompressedLaws.{apex-or, says-isApex, not-apex}
 use Rattle.tree_laws.specs.Join.{Joins}
 use Rattle.tree_laws.specs.JoinLaws.{anc-new, new-anc}
-use Rattle.span.specs.Constants.{capacity as most}
+use Rattle.rows.specs.Capacity.{capacityLimit}
 use Rattle.rows.specs.declared.row.Row.{Row}
 use Rattle.rows.specs.Table.{Table, parent, depth, upper, path, size}
 use Rattle.rows.specs.Rules.{Rules}
@@ -102,7 +102,7 @@ under-path : (t : Table) {v : ℕ} → v ≢ none → PathChild (parent t) (path
 unfolding upperUnder
 under-path t {v} n o = rw (says-false (says-eqb v none) n, says-false (says-isApex (parent t) (path t) v) (not-apex o))
 
-module _ {capacity : ℕ} (t : Table) (g : Growth) (r : Rules capacity t) (small : capacity ≤ most) (a : Named t g) where
+module _ {capacity : ℕ} (t : Table) (g : Growth) (r : Rules capacity t) (small : capacity ≤ capacityLimit) (a : Named t g) where
   was : OwnTrees t
   was = own-trees r small
 

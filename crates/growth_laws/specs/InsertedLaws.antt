@@ -14,7 +14,8 @@ use Rattle.tree_laws.specs.Join.{Joins}
 use Rattle.tree_laws.specs.JoinLaws.{size-over, size-other, size-new}
 use Rattle.tree_laws.specs.Size.{childSum}
 use Rattle.tree_laws.specs.SizeLaws.{childSum-same, childSum-last}
-use Rattle.span.specs.Constants.{growthUp, growthDown, capacity as most}
+use Rattle.span.specs.Constants.{growthUp, growthDown}
+use Rattle.rows.specs.Capacity.{capacityLimit}
 use Rattle.rows.specs.Table.{Table, parent, depth, upper, path, size, setSize, start, nextFree}
 use Rattle.rows.specs.Spans.{p, end}
 use Rattle.rows.specs.Entries.{Entry}
@@ -27,7 +28,7 @@ use Rattle.growth_laws.specs.Ready.{Settled}
 use Rattle.growth_laws.specs.Trees.{OwnTrees, own-trees, stored, uppers, upper-step}
 use Rattle.growth_laws.specs.PlantedLaws.{planted-depth, old-or-new}
 
-module _ {capacity : ℕ} {t m : Table} {g : Growth} (r : Rules capacity t) (small : capacity ≤ most) (room : t .count < capacity)
+module _ {capacity : ℕ} {t m : Table} {g : Growth} (r : Rules capacity t) (small : capacity ≤ capacityLimit) (room : t .count < capacity)
     (a : Named t g) (k : Inserted t m g) where
   before : OwnTrees t
   before = own-trees r small

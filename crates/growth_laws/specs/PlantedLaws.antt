@@ -8,7 +8,7 @@ use Rattle.tree_laws.specs.Ancestor.{none}
 use Rattle.tree_laws.specs.Depth.{Depth as DepthOf}
 use Rattle.tree_laws.specs.Join.{Joins}
 use Rattle.tree_laws.specs.JoinLaws.{join-depth}
-use Rattle.span.specs.Constants.{capacity as most}
+use Rattle.rows.specs.Capacity.{capacityLimit}
 use Rattle.rows.specs.Table.{Table, parent, depth}
 use Rattle.rows.specs.Rules.{Recorded}
 use Rattle.growth_laws.specs.Growth.{Growth, root, Named, named-leaf, named-root, parentOf}
@@ -66,11 +66,11 @@ parent-in r (named-leaf l i j) h = l
 parent-in {t = t} r named-root h = elim (decLt 0 (t .count)) [ yes y ↦ r .root y | no n ↦ absurd (h (r .noRoot (omega arith))) ]
 
 -- and there is none only where the table was empty
-pub parent-some : {capacity : ℕ} {t : Table} {g : Growth} → Recorded capacity t → capacity ≤ most → Named t g → 0 < t .count → parentOf t g ≢ none
+pub parent-some : {capacity : ℕ} {t : Table} {g : Growth} → Recorded capacity t → capacity ≤ capacityLimit → Named t g → 0 < t .count → parentOf t g ≢ none
 parent-some r small (named-leaf l i j) y e = omega (arith, r .count)
 parent-some r small named-root y e = omega (arith, r .count, r .root y)
 
-module _ {capacity : ℕ} {t d : Table} {g : Growth} (r : Recorded capacity t) (small : capacity ≤ most) (k : Planted t d g) where
+module _ {capacity : ℕ} {t d : Table} {g : Growth} (r : Recorded capacity t) (small : capacity ≤ capacityLimit) (k : Planted t d g) where
   -- the new row joins the stored tree as a leaf
   pub joins : Joins (parent t) (parent d) (t .count) (t .count) (parentOf t g)
   joins = record { same = λ x l. k .old x l .sameParent; fresh = omega arith; some = λ e. omega (arith, r .count); under = k .new .parentIs }

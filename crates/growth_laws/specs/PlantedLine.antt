@@ -6,7 +6,7 @@ use native.Mathlib.Omega.{arith}
 use Rattle.laws.specs.Test.{says-true, says-false, says-eqb}
 use Rattle.tree_laws.specs.Ancestor.{none, here}
 use Rattle.tree_laws.specs.JoinLaws.{anc-kept, anc-old, new-not-over, anc-new, new-anc}
-use Rattle.span.specs.Constants.{capacity as most}
+use Rattle.rows.specs.Capacity.{capacityLimit}
 use Rattle.rows.specs.Table.{Table, parent}
 use Rattle.rows.specs.StoredTree.{OnLine, Level, Label}
 use Rattle.rows.specs.Rules.{Recorded}
@@ -15,7 +15,7 @@ use Rattle.growth_laws.specs.Inserted.{Planted}
 use Rattle.growth_laws.specs.Trees.{recorded-forest}
 use Rattle.growth_laws.specs.PlantedLaws.{parent-in, joins}
 
-module _ {capacity : ℕ} {t d : Table} (r : Recorded capacity t) (small : capacity ≤ most) where
+module _ {capacity : ℕ} {t d : Table} (r : Recorded capacity t) (small : capacity ≤ capacityLimit) where
   line-kept : {g : Growth} {x : ℕ} → Named t g → Planted t d g → x < t .count → OnLine t x → OnLine d x
   line-kept (named-leaf i j h) k l p = rw (k .root) (anc-kept (recorded-forest r small) (joins r small k) (r .root (omega arith)) p)
   line-kept named-root k l p = rw (k .root) (anc-new (recorded-forest r small) (joins r small k) (r .root (omega arith)) p)

@@ -5,7 +5,7 @@ use Prim.Native.Nat.{ℕ, _+_, _≤_, _<_}
 use native.Mathlib.Decide.{ℕ-discrete}
 use native.Mathlib.Omega.{arith}
 use Rattle.tree_laws.specs.Ancestor.{none}
-use Rattle.span.specs.Constants.{capacity as most}
+use Rattle.rows.specs.Capacity.{capacityLimit}
 use Rattle.rows.specs.Table.{Table, parent}
 use Rattle.rows.specs.StoredTree.{Child, FirstFrom, absent, least, LastOf, greatest, ChildLinks}
 use Rattle.rows.specs.Rules.{Recorded}
@@ -14,7 +14,7 @@ use Rattle.growth_laws.specs.Inserted.{LinksAfter, Planted}
 use Rattle.growth_laws.specs.Trees.{recorded-forest}
 use Rattle.growth_laws.specs.PlantedLaws.{old-or-new, parent-in, parent-some}
 
-module _ {capacity : ℕ} {t d : Table} {g : Growth} (r : Recorded capacity t) (small : capacity ≤ most) (a : Named t g) (k : Planted t d g) where
+module _ {capacity : ℕ} {t d : Table} {g : Growth} (r : Recorded capacity t) (small : capacity ≤ capacityLimit) (a : Named t g) (k : Planted t d g) where
   child-kept : {v c : ℕ} → Child t v c → Child d v c
   child-kept {v} {c} h = record { inUse = omega (arith, h .inUse, k .count); parent = k .old c (h .inUse) .sameParent ∙ h .parent }
 

@@ -8,7 +8,8 @@ use Rattle.tree_laws.specs.AncestorLaws.{trans, linear, towards, anc-in, no-loo
 use Rattle.tree_laws.specs.Compressed.{Apex}
 use Rattle.tree_laws.specs.Size.{size as sizeIn}
 use Rattle.tree_laws.specs.SizeLaws.{size-children, ChildOf, childSum-some}
-use Rattle.span.specs.Constants.{growthUp, growthDown, capacity as most}
+use Rattle.span.specs.Constants.{growthUp, growthDown}
+use Rattle.rows.specs.Capacity.{capacityLimit}
 use Rattle.rows.specs.Table.{Table, parent, depth, upper, path, size, setSize, nextFree}
 use Rattle.rows.specs.Spans.{p}
 use Rattle.rows.specs.Rules.{Rules}
@@ -21,7 +22,7 @@ use Rattle.growth_laws.specs.Trees.{OwnTrees, own-trees, uppers, upper-a
 use Rattle.growth_laws.specs.PlantedLaws.{parent-in, old-or-new}
 use Rattle.growth_laws.specs.InsertedLaws.{inserted-trees, p-old, small-old, settled-old}
 
-module _ {capacity : ℕ} {t m : Table} {g : Growth} {h : ℕ} (r : Rules capacity t) (small : capacity ≤ most) (room : t .count < capacity)
+module _ {capacity : ℕ} {t m : Table} {g : Growth} {h : ℕ} (r : Rules capacity t) (small : capacity ≤ capacityLimit) (room : t .count < capacity)
     (a : Named t g) (k : Inserted t m g) (e : Head m (t .count) h) where
   trees : OwnTrees m
   trees = inserted-trees r small room a k

@@ -7,16 +7,17 @@ use native.Mathlib.Omega.{arith}
 use Rattle.laws.specs.Fourth.{fourth, fourth-le}
 use Rattle.tree_laws.specs.Ancestor.{none}
 use Rattle.tree_laws.specs.AncestorLaws.{climb}
-use Rattle.span.specs.Constants.{capacity as most, limit}
+use Rattle.span.specs.Constants.{limit}
 use Rattle.span.specs.Numbers.{endOf}
 use Rattle.span.specs.NumberLaws.{limit-span}
+use Rattle.rows.specs.Capacity.{capacityLimit}
 use Rattle.rows.specs.Table.{Table, upper, setSize, nextFree}
 use Rattle.rows.specs.Spans.{end}
 use Rattle.rows.specs.Rules.{Rules}
 use Rattle.growth_laws.specs.Trees.{own-trees, uppers, parent-upper}
 use Rattle.growth_laws.specs.Chains.{size-most}
 
-module _ {capacity : ℕ} {t : Table} (r : Rules capacity t) (small : capacity ≤ most) where
+module _ {capacity : ℕ} {t : Table} (r : Rules capacity t) (small : capacity ≤ capacityLimit) where
   -- the span of every row ends within a span of n rows from 0 on
   pub end-small : (x : ℕ) → x < t .count → end t x ≤ endOf 0 (t .count)
   end-small = climb (uppers (own-trees r small)) (λ x. end t x ≤ endOf 0 (t .count)) first below
@@ -40,7 +41,7 @@ module _ {capacity : ℕ} {t : Table} (r : Rules capacity t) (small : capacity �
   pub end-within : (x : ℕ) → x < t .count → end t x ≤ limit
   end-within x l = omega (arith, end-small x l, limit-span, whole)
     where
-      whole : fourth (t .count) ≤ fourth most
+      whole : fourth (t .count) ≤ fourth capacityLimit
       whole = fourth-le (omega (arith, r .one .count))
 
   pub nextFree-within : (x : ℕ) → x < t .count → nextFree t x ≤ limit

@@ -12,7 +12,7 @@ use Rattle.tree_laws.specs.Size.{size as sizeIn}
 use Rattle.tree_laws.specs.SizeLaws.{size-same}
 use Rattle.tree_laws.specs.Compressed.{Apex, Compressed, UpperStep}
 use Rattle.tree_laws.specs.CompressedLaws.{from-step, to-step, upper-first, upper-over, compressed-forest, to-stored, to-upper}
-use Rattle.span.specs.Constants.{capacity as most}
+use Rattle.rows.specs.Capacity.{capacityLimit}
 use Rattle.rows.specs.Table.{Table, parent, depth, upper, path, size}
 use Rattle.rows.specs.Rules.{Recorded, Compressed as Rule2, Rules}
 use Rattle.growth_laws.specs.StepLaws.{Near, step-copy}
@@ -79,7 +79,7 @@ module _ {parent depth : ℕ → ℕ} {n : ℕ} {c : Table} (k : Trees parent de
 
 -- The trees of a table that passes inspection
 
-pub recorded-depth : {capacity : ℕ} {t : Table} → Recorded capacity t → capacity ≤ most → Depth (parent t) (depth t) (t .count)
+pub recorded-depth : {capacity : ℕ} {t : Table} → Recorded capacity t → capacity ≤ capacityLimit → Depth (parent t) (depth t) (t .count)
 recorded-depth {capacity} {t} r small = record {
   small = omega (arith, r .count);
   inside = λ x l h. elim (ℕ-discrete x 0) [
@@ -90,10 +90,10 @@ recorded-depth {capacity} {t} r small = record {
   step = λ x l. r .depth x l .below;
 }
 
-pub recorded-forest : {capacity : ℕ} {t : Table} → Recorded capacity t → capacity ≤ most → Forest (parent t) (depth t) (t .count)
+pub recorded-forest : {capacity : ℕ} {t : Table} → Recorded capacity t → capacity ≤ capacityLimit → Forest (parent t) (depth t) (t .count)
 recorded-forest r small = depth-forest (recorded-depth r small)
 
-pub own-trees : {capacity : ℕ} {t : Table} → Rules capacity t → capacity ≤ most → OwnTrees t
+pub own-trees : {capacity : ℕ} {t : Table} → Rules capacity t → capacity ≤ capacityLimit → OwnTrees t
 own-trees {capacity} {t} r small = record {
   shape = recorded-depth (r .one) small;
   inUse = λ v l h. r .two .path v l h .inUse;
