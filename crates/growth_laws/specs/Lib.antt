@@ -31,3 +31,4 @@ pub mod GrowthPlain
 pub mod EmptyTable
 pub mod Insert
 pub mod InsertLaws
+pub mod Example
