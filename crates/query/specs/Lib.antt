@@ -4,3 +4,8 @@ pub mod CompressedStep
 pub mod StoredAnswer
 pub mod StoredAnswerLaws
 pub mod PlainAnswer
+pub mod AnswerRows
+pub mod Outcome
+pub mod Question
+pub mod LevelLaws
+pub mod QuestionLaws

@@ -5,20 +5,14 @@ use Rattle.query.specs.CompressedStep.{atEntry}
 use borrow.Author.Needs.{needs}
 use Rattle.query.proofs.compressed.at_entry.Statement.{statement}
 use Rattle.query.proofs.compressed.at_entry.Tie as tie
-use Rattle.query.proofs.compressed.at_entry.Reads as reads
-use Rattle.query.proofs.compressed.at_entry.Lts as lts
-use Rattle.query.proofs.row.is_row.Reads as is-row-reads
 
--- src/compressed.rt:45:9
 returns : tie.Need-returns
 unfolding atEntry
 returns c = rw (eq-eqb (c .before .before .before .before .args .e) none (c .if1 .taken))
 
--- src/compressed.rt:51:9
 is-row-requires : tie.Need-is-row-requires
 is-row-requires c κs = search needs
 
--- src/compressed.rt:40:1
 returns-2 : tie.Need-returns-2
 unfolding atEntry
 returns-2 c = rw (ne-eqb (c .before .before .before .before .before .args .e) none (c .before .if1 .left), c .is-row .ensures)

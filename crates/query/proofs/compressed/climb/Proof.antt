@@ -3,25 +3,17 @@ use Rattle.query.specs.CompressedStep.{climb}
 use borrow.Author.Needs.{needs}
 use Rattle.query.proofs.compressed.climb.Statement.{statement}
 use Rattle.query.proofs.compressed.climb.Tie as tie
-use Rattle.query.proofs.compressed.climb.Reads as reads
-use Rattle.query.proofs.compressed.climb.Lts as lts
-use Rattle.query.proofs.row.is_row.Reads as is-row-reads
-use Rattle.rows.proofs.row.field.Reads as field-reads
 
--- src/compressed.rt:27:9
 returns : tie.Need-returns
 unfolding climb
 returns c = rw (c .if1 .taken)
 
--- src/compressed.rt:30:9
 field-requires : tie.Need-field-requires
 field-requires c κs = search needs
 
--- src/compressed.rt:31:9
 is-row-requires : tie.Need-is-row-requires
 is-row-requires c κs = search needs
 
--- src/compressed.rt:22:1
 returns-2 : tie.Need-returns-2
 unfolding climb
 returns-2 c = rw (c .before .before .before .if1 .left, c .before .is-row .ensures, c .before .before .field .ensures)

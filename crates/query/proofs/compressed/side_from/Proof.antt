@@ -3,38 +3,25 @@ use Rattle.query.specs.CompressedStep.{sideFrom, pastSpan, pastReach, pa
 use borrow.Author.Needs.{needs}
 use Rattle.query.proofs.compressed.side_from.Statement.{statement}
 use Rattle.query.proofs.compressed.side_from.Tie as tie
-use Rattle.query.proofs.compressed.side_from.Reads as reads
-use Rattle.query.proofs.compressed.side_from.Lts as lts
-use Rattle.query.proofs.compressed.at_entry.Reads as at-entry-reads
-use Rattle.query.proofs.compressed.climb.Reads as climb-reads
-use Rattle.query.proofs.row.covers.Reads as covers-reads
-use Rattle.query.proofs.row.reaches.Reads as reaches-reads
 
--- src/compressed.rt:64:9
 at-entry-requires : tie.Need-at-entry-requires
 at-entry-requires c κs = search needs
 
--- src/compressed.rt:65:9
 climb-requires : tie.Need-climb-requires
 climb-requires c κs = search needs
 
--- src/compressed.rt:66:9
 reaches-requires : tie.Need-reaches-requires
 reaches-requires c κs = search needs
 
--- src/compressed.rt:67:9
 climb-requires-2 : tie.Need-climb-requires-2
 climb-requires-2 c κs = search needs
 
--- src/compressed.rt:68:9
 covers-requires : tie.Need-covers-requires
 covers-requires c κs = search needs
 
--- src/compressed.rt:69:5
 climb-requires-3 : tie.Need-climb-requires-3
 climb-requires-3 c κs = search needs
 
--- src/compressed.rt:60:1
 returns : tie.Need-returns
 unfolding sideFrom pastSpan pastReach pastEntry
 returns c =

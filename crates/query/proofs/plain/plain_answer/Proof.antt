@@ -3,41 +3,28 @@ use Rattle.query.specs.PlainAnswer.{plainAnswer}
 use borrow.Author.Needs.{needs}
 use Rattle.query.proofs.plain.plain_answer.Statement.{statement}
 use Rattle.query.proofs.plain.plain_answer.Tie as tie
-use Rattle.query.proofs.plain.plain_answer.Reads as reads
-use Rattle.query.proofs.plain.plain_answer.Lts as lts
-use Rattle.query.proofs.plain.plain_from.Reads as plain-from-reads
-use Rattle.query.proofs.row.p_at.Reads as p-at-reads
-use Rattle.query.proofs.stored.stored_from.Reads as stored-from-reads
 
--- src/plain.rt:36:9
 p-at-requires : tie.Need-p-at-requires
 p-at-requires c κs = search needs
 
--- src/plain.rt:37:9
 p-at-requires-2 : tie.Need-p-at-requires-2
 p-at-requires-2 c κs = search needs
 
--- src/plain.rt:38:9
 p-at-requires-3 : tie.Need-p-at-requires-3
 p-at-requires-3 c κs = search needs
 
--- src/plain.rt:39:9
 stored-from-requires : tie.Need-stored-from-requires
 stored-from-requires c κs = search needs
 
--- src/plain.rt:40:9
 stored-from-requires-2 : tie.Need-stored-from-requires-2
 stored-from-requires-2 c κs = search needs
 
--- src/plain.rt:41:9
 stored-from-requires-3 : tie.Need-stored-from-requires-3
 stored-from-requires-3 c κs = search needs
 
--- src/plain.rt:42:5
 plain-from-requires : tie.Need-plain-from-requires
 plain-from-requires c κs = search needs
 
--- src/plain.rt:30:1
 returns : tie.Need-returns
 unfolding plainAnswer
 returns c =

@@ -5,29 +5,20 @@ use Rattle.query.specs.PlainAnswer.{plainFrom}
 use borrow.Author.Needs.{needs}
 use Rattle.query.proofs.plain.plain_from.Statement.{statement}
 use Rattle.query.proofs.plain.plain_from.Tie as tie
-use Rattle.query.proofs.plain.plain_from.Reads as reads
-use Rattle.query.proofs.plain.plain_from.Lts as lts
-use Rattle.query.proofs.stored.forked.Reads as forked-reads
-use Rattle.rows.proofs.row.field.Reads as field-reads
 
--- src/plain.rt:21:9
 forked-requires : tie.Need-forked-requires
 forked-requires c κs = search needs
 
--- src/plain.rt:21:9
 returns : tie.Need-returns
 unfolding plainFrom plainNca plainToX plainToY
 returns c = let a = c .before .before .before .before .before .before .before .before .args in rw (c .forked .ensures, eq-eqb (a .xr .nca) (a .yr .nca) (c .before .if1 .taken))
 
--- src/plain.rt:24:26
 field-requires : tie.Need-field-requires
 field-requires c κs = search needs
 
--- src/plain.rt:24:9
 forked-requires-2 : tie.Need-forked-requires-2
 forked-requires-2 c κs = search needs
 
--- src/plain.rt:24:9
 returns-2 : tie.Need-returns-2
 unfolding plainFrom plainNca plainToX plainToY
 returns-2 c =
@@ -39,15 +30,12 @@ returns-2 c =
       eq-eqb (a .xy .nca) (a .xr .nca) (c .before .before .if2 .taken),
     )
 
--- src/plain.rt:26:24
 field-requires-2 : tie.Need-field-requires-2
 field-requires-2 c κs = search needs
 
--- src/plain.rt:26:5
 forked-requires-3 : tie.Need-forked-requires-3
 forked-requires-3 c κs = search needs
 
--- src/plain.rt:14:1
 returns-3 : tie.Need-returns-3
 unfolding plainFrom plainNca plainToX plainToY
 returns-3 c =

@@ -4,37 +4,25 @@ use Rattle.query.specs.ReadingLaws.{covers-below, covers-parts}
 use borrow.Author.Needs.{needs}
 use Rattle.query.proofs.row.covers.Statement.{statement}
 use Rattle.query.proofs.row.covers.Tie as tie
-use Rattle.query.proofs.row.covers.Reads as reads
-use Rattle.query.proofs.row.covers.Lts as lts
-use Rattle.rows.proofs.row.field.Reads as field-reads
-use Rattle.rows.proofs.row.number.Reads as number-reads
-use Rattle.span.proofs.part.Reads as part-reads
 
--- src/row.rt:48:9
 number-requires : tie.Need-number-requires
 number-requires c κs = search needs
 
--- src/row.rt:50:9
 returns : tie.Need-returns
 returns c = covers-below _ _ _ (rw (c .before .number .ensures) at (c .if1 .taken))
 
--- src/row.rt:53:20
 field-requires : tie.Need-field-requires
 field-requires c κs = search needs
 
--- src/row.rt:53:9
 part-requires : tie.Need-part-requires
 part-requires c κs = search needs
 
--- src/row.rt:54:32
 sub-result : tie.Need-sub-result
 sub-result c = search needs
 
--- src/row.rt:54:23
 div-result : tie.Need-div-result
 div-result c = search needs
 
--- src/row.rt:45:1
 returns-2 : tie.Need-returns-2
 unfolding covers
 returns-2 c =

@@ -4,20 +4,14 @@ use Rattle.tree_laws.specs.StoredFromCompressed.{branchAt}
 use borrow.Author.Needs.{needs}
 use Rattle.query.proofs.stored.branch_at.Statement.{statement}
 use Rattle.query.proofs.stored.branch_at.Tie as tie
-use Rattle.query.proofs.stored.branch_at.Reads as reads
-use Rattle.query.proofs.stored.branch_at.Lts as lts
-use Rattle.rows.proofs.row.field.Reads as field-reads
 
--- src/stored.rt:72:9
 returns : tie.Need-returns
 unfolding branchAt
 returns c = let a = c .before .before .before .before .args in rw (eq-eqb (a .a) (a .b) (c .if1 .taken))
 
--- src/stored.rt:74:5
 field-requires : tie.Need-field-requires
 field-requires c κs = search needs
 
--- src/stored.rt:68:1
 returns-2 : tie.Need-returns-2
 unfolding branchAt
 returns-2 c = let a = c .before .before .before .before .before .args in rw (ne-eqb (a .a) (a .b) (c .before .if1 .left)) (c .field .ensures)

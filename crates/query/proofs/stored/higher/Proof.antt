@@ -4,24 +4,17 @@ use Rattle.tree_laws.specs.StoredFromCompressed.{higher}
 use borrow.Author.Needs.{needs}
 use Rattle.query.proofs.stored.higher.Statement.{statement}
 use Rattle.query.proofs.stored.higher.Tie as tie
-use Rattle.query.proofs.stored.higher.Reads as reads
-use Rattle.query.proofs.stored.higher.Lts as lts
-use Rattle.rows.proofs.row.field.Reads as field-reads
 
--- src/stored.rt:61:8
 field-requires : tie.Need-field-requires
 field-requires c κs = search needs
 
--- src/stored.rt:61:35
 field-requires-2 : tie.Need-field-requires-2
 field-requires-2 c κs = search needs
 
--- src/stored.rt:62:9
 returns : tie.Need-returns
 unfolding higher
 returns c = rw (← c .before .before .field .ensures, ← c .before .field2 .ensures, le-leb _ _ (c .if1 .taken))
 
--- src/stored.rt:58:1
 returns-2 : tie.Need-returns-2
 unfolding higher
 returns-2 c = rw (← c .before .before .field .ensures, ← c .before .field2 .ensures, lt-leb _ _ (c .if1 .left))

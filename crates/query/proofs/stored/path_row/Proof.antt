@@ -7,31 +7,23 @@ use Rattle.tree_laws.specs.StoredFromCompressed.{pathRow}
 use borrow.Author.Needs.{needs}
 use Rattle.query.proofs.stored.path_row.Statement.{statement}
 use Rattle.query.proofs.stored.path_row.Tie as tie
-use Rattle.query.proofs.stored.path_row.Reads as reads
-use Rattle.query.proofs.stored.path_row.Lts as lts
-use Rattle.rows.proofs.row.field.Reads as field-reads
 
--- src/stored.rt:33:9
 returns : tie.Need-returns
 unfolding pathRow
 returns c = let s = c .before .before .before .before .before .args .s in rw (eq-eqb (s .below) (s .row) (c .if1 .taken))
 
--- src/stored.rt:35:9
 field-requires : tie.Need-field-requires
 field-requires c κs = search needs
 
--- src/stored.rt:37:9
 returns-2 : tie.Need-returns-2
 unfolding pathRow isApex
 returns-2 c =
     let s = c .before .before .before .before .before .before .before .args .s in
     rw (ne-eqb (s .below) (s .row) (c .before .before .if1 .left), ← c .before .field .ensures, eq-eqb _ none (c .if2 .taken))
 
--- src/stored.rt:39:8
 field-requires-2 : tie.Need-field-requires-2
 field-requires-2 c κs = search needs
 
--- src/stored.rt:40:9
 returns-3 : tie.Need-returns-3
 unfolding pathRow isApex
 returns-3 c =
@@ -44,7 +36,6 @@ returns-3 c =
       eq-eqb _ (s .below) (c .if3 .taken),
     )
 
--- src/stored.rt:28:1
 returns-4 : tie.Need-returns-4
 unfolding pathRow isApex
 returns-4 c =

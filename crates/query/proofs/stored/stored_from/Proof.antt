@@ -6,59 +6,41 @@ use Rattle.query.specs.StoredAnswerLaws.{rank-listed}
 use borrow.Author.Needs.{needs}
 use Rattle.query.proofs.stored.stored_from.Statement.{statement}
 use Rattle.query.proofs.stored.stored_from.Tie as tie
-use Rattle.query.proofs.stored.stored_from.Reads as reads
-use Rattle.query.proofs.stored.stored_from.Lts as lts
-use Rattle.query.proofs.compressed.side_from.Reads as side-from-reads
-use Rattle.query.proofs.stored.between.Reads as between-reads
-use Rattle.query.proofs.stored.join.Reads as join-reads
-use Rattle.rows.proofs.row.entry.Reads as entry-reads
-use Rattle.span.proofs.rank.Reads as rank-reads
 
--- src/stored.rt:121:9
 returns : tie.Need-returns
 unfolding storedFrom
 returns c = let a = c .before .before .before .before .args in rw (eq-eqb (a .x) (a .y) (c .if1 .taken))
 
--- src/stored.rt:129:9
 returns-2 : tie.Need-returns-2
 unfolding storedFrom
 returns-2 c =
     let a = c .before .before .before .before .before .args in
     rw (ne-eqb (a .x) (a .y) (c .before .if1 .left), eq-eqb (a .px) (a .py) (c .if2 .taken))
 
--- src/stored.rt:136:9
 between-requires : tie.Need-between-requires
 between-requires c κs = search needs
 
--- src/stored.rt:137:13
 rank-requires : tie.Need-rank-requires
 rank-requires c κs = search needs
 
--- src/stored.rt:137:13
 cast-i : tie.Need-cast-i
 cast-i c = rw (c .rank .ensures) record { fits = omega (arith, rank-listed (c .before .between .result)) }
 
--- src/stored.rt:138:66
 entry-requires : tie.Need-entry-requires
 entry-requires c κs = search needs
 
--- src/stored.rt:138:9
 side-from-requires : tie.Need-side-from-requires
 side-from-requires c κs = search needs
 
--- src/stored.rt:139:66
 entry-requires-2 : tie.Need-entry-requires-2
 entry-requires-2 c κs = search needs
 
--- src/stored.rt:139:9
 side-from-requires-2 : tie.Need-side-from-requires-2
 side-from-requires-2 c κs = search needs
 
--- src/stored.rt:140:5
 join-requires : tie.Need-join-requires
 join-requires c κs = search needs
 
--- src/stored.rt:116:1
 returns-3 : tie.Need-returns-3
 unfolding storedFrom
 returns-3 c =
