@@ -1,0 +1,11 @@
+pub mod Reading
+pub mod ReadingLaws
+pub mod CompressedStep
+pub mod StoredAnswer
+pub mod StoredAnswerLaws
+pub mod PlainAnswer
+pub mod AnswerRows
+pub mod Outcome
+pub mod Question
+pub mod LevelLaws
+pub mod QuestionLaws
