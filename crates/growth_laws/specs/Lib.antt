@@ -6,3 +6,12 @@ pub mod Trees
 pub mod PlantedLaws
 pub mod Ready
 pub mod InsertedLaws
+pub mod RebuiltLaws
+pub mod RoomLaws
+pub mod RenumberedLaws
+pub mod Grown
+pub mod GrowthKeepsRules
+pub mod HeadLaws
+pub mod Chains
+pub mod Lag
+pub mod GrowthPays
