@@ -1,3 +1,4 @@
 pub mod Column
 pub mod Sizes
 pub mod HeavyChild
+pub mod SizesLaws
