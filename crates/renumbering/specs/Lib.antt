@@ -2,3 +2,6 @@ pub mod Column
 pub mod Sizes
 pub mod HeavyChild
 pub mod SizesLaws
+pub mod Numbers
+pub mod Placed
+pub mod PlacedLaws
