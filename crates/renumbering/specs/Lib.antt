@@ -5,3 +5,4 @@ pub mod SizesLaws
 pub mod Numbers
 pub mod Placed
 pub mod PlacedLaws
+pub mod NumbersLaws

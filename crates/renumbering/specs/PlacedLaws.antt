@@ -16,7 +16,7 @@ use Rattle.tree_laws.specs.Compressed.{Apex, PathChild, UpperStep}
 use Rattle.tree_laws.specs.CompressedLaws.{apex-or, not-apex, says-isApex}
 use Rattle.span.specs.Constants.{width}
 use Rattle.renumbering.specs.Numbers.{Numbers, entryOf, headStart, headPlaced, topOf, sizeOf, numberedBelow, numbered}
-use Rattle.renumbering.specs.Placed.{Kept, Placed, placed-is, pAt, endAt, FilledAt, share, Start, Done}
+use Rattle.renumbering.specs.Placed.{Kept, Placed, placed-is, pAt, endAt, FilledAt, share, Once, empty, first, Start, Done}
 
 only-one : {x y : ℕ} → Member (x ∷ []) y → y ≡ x
 only-one (inl e) = e
@@ -65,6 +65,7 @@ module _ {parent path rank : ℕ → ℕ} {n h : ℕ} {b : Numbers} (st : Start 
 
   head-done : {d : Numbers} → Placed b d h (b .upper h) (headStart b h) (b .size h) → Done parent path n h b (h ∷ []) d
   head-done {d} v = record {
+    once = first (λ z. z) empty;
     head = inl refl;
     inUse = λ x z. rw (only-one z) (st .inUse);
     below = λ x z. rw (only-one z) here;
@@ -185,6 +186,7 @@ module _ {parent path rank : ℕ → ℕ} {n h : ℕ} {b : Numbers} (st : Start 
 
     row-done : Done parent path n h b (x ∷ l) d
     row-done = record {
+      once = first new (g .once);
       head = inr (g .head);
       inUse = λ y z. elim z [ inl e ↦ rw e xn | inr o ↦ g .inUse y o ];
       below = λ y z. elim z [ inl e ↦ rw e x-below | inr o ↦ g .below y o ];
@@ -237,3 +239,29 @@ module _ {parent path rank : ℕ → ℕ} {n h : ℕ} {b : Numbers} (st : Start 
           start = p .start ∙ q .start;
           entry = λ i. p .entry i ∙ q .entry i;
         }
+
+  -- The visits
+
+  pub head-numbered : Done parent path n h b (h ∷ []) (headPlaced h b)
+  unfolding headPlaced
+  head-numbered = head-done (placed-is h (b .upper h) (headStart b h) (b .size h) b)
+
+  upward : (c : Numbers) (x : ℕ) → Upward parent path c x (topOf parent path c (parent x))
+  unfolding topOf
+  upward c x = record {
+    apex = λ a. rw (says-true (says-isApex parent path (parent x)) a);
+    along = λ o. rw (says-false (says-isApex parent path (parent x)) (not-apex o));
+  }
+
+  size-is : (c : Numbers) (x : ℕ) → parent x ≢ none → c .size x ≡ b .size x → SizeIs parent path b x (sizeOf parent path c x)
+  unfolding sizeOf
+  size-is c x some e = record {
+    apex = λ a. rw (says-false (says-eqb (path (parent x)) x) (a some)) e;
+    along = λ o. rw (says-true (says-eqb (path (parent x)) x) (o .link));
+  }
+
+  pub row-numbered : {l : List ℕ} {c : Numbers} {x : ℕ} → Done parent path n h b l c → x < n → ¬ Member l x → parent x ≢ none → Member l (parent x)
+      → Done parent path n h b (x ∷ l) (numbered parent path x c)
+  unfolding numbered numberedBelow
+  row-numbered {c = c} {x} g xn new some under =
+      row-done g xn new some under (upward c x) (size-is c x some (g .kept x new .size)) (placed-is x _ _ _ c)
