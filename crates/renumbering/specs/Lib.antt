@@ -6,3 +6,5 @@ pub mod Numbers
 pub mod Placed
 pub mod PlacedLaws
 pub mod NumbersLaws
+pub mod Renumbering
+pub mod RenumberingLaws
