@@ -8,3 +8,4 @@ pub mod PlacedLaws
 pub mod NumbersLaws
 pub mod Renumbering
 pub mod RenumberingLaws
+pub mod Follow
