@@ -9,3 +9,6 @@ pub mod NumbersLaws
 pub mod Renumbering
 pub mod RenumberingLaws
 pub mod Follow
+pub mod FollowLaws
+pub mod Carried
+pub mod CarriedLaws
