@@ -101,3 +101,25 @@ module _ (k : Links) (path : ℕ → ℕ) where
       let b = sweep-carried {v = v} {f = rest} c₂ some h y (λ m. o (inr (inr m)))
       (top-left (k .parent) path v r kids c z new (λ m. o (inr (inl m))) (λ m. o (inl m))) in
       rw (entered (k .parent) path r top c (rw z some) (rw z e), a, left (k .parent) path r (topOf (k .parent) path c₂ r) c₂) b
+
+  -- each visit of the walk stores what stands at its end
+  pub through-carried : {v w : ℕ} {f : Kin} (c : Numbers) {top : ℕ} → v ≢ none → Reads k v w f → Distinct f → ¬ In f v → top ≡ topOf (k .parent) path c v
+      → Through (carriedVisit (k .parent) path)
+      (λ x t. Lasting (k .parent) path (sweep (onEntry (numbered (k .parent) path)) f c) x (t .top) (t .numbers)) f record { numbers = c; top = top }
+  through-carried {f = nil} c some r d o e = empty
+  through-carried {v} {f = node r kids rest} c {top} some (more i z g h) (apart new alone two x y) o e =
+      let c₁ : Numbers = numbered (k .parent) path r c in
+      let c₂ : Numbers = sweep (onEntry (numbered (k .parent) path)) kids c₁ in
+      let d : Numbers = sweep (onEntry (numbered (k .parent) path)) rest c₂ in
+      let on = top-left (k .parent) path v r kids c z new (λ m. o (inr (inl m))) (λ m. o (inl m)) in
+      let start = entered (k .parent) path r top c (rw z some) (rw z e) in
+      let first : Lasting (k .parent) path d r (topOf (k .parent) path c (k .parent r)) c =
+      lasting (k .parent) path v r kids c z new (λ m. o (inr (inl m))) (λ m. o (inl m)) (sweep-kept (k .parent) path rest c₂ r alone) in
+      let below = through-map {F = λ x t. Lasting (k .parent) path d x (t .top) (t .numbers)}
+      (λ a m t q. lasting-kept q (sweep-kept (k .parent) path rest c₂ a (two a m))) (through-carried {v = r} {f = kids} c₁ i g x new refl) in
+      let later = through-carried {v = v} {f = rest} c₂ some h y (λ m. o (inr (inr m))) on in
+      around {x = r} {kids = kids} {rest = rest} {t = record { numbers = c; top = top }} (rw (z, ← e) at first) (rw start below)
+      (rw (start, sweep-carried {v = r} {f = kids} c₁ i g x new refl, left (k .parent) path r (topOf (k .parent) path c₂ r) c₂) later)
+    where
+      lasting-kept : {d d′ : Numbers} {x u : ℕ} {c : Numbers} → Lasting (k .parent) path d x u c → Kept d d′ x → Lasting (k .parent) path d′ x u c
+      lasting-kept q p = record { upper = q .upper ∙ sym (p .upper); start = q .start ∙ sym (p .start); setSize = q .setSize ∙ sym (p .setSize) }

@@ -13,6 +13,7 @@ use Rattle.tree_laws.specs.Siblings.{Kin, nil, node, count, In, Sibling, Distin
 use Rattle.tree_laws.specs.SiblingsLaws.{sibling-parent, in-inside, in-over, reads-distinct, in-anc, anc-in-kin, size-count}
 use Rattle.tree_laws.specs.Walk.{sweep}
 use Rattle.renumbering.specs.Column.{put-same, put-other}
+use Rattle.renumbering.specs.Follow.{Through, empty, around}
 use Rattle.renumbering.specs.HeavyChild.{HeavyChild, absent, heavy}
 use Rattle.renumbering.specs.Sizes.{Sizing, linked, opened, counted, isLight, keptHeavy, closed, isLarger, offered, sizeVisit, sizePass}
 
@@ -298,3 +299,24 @@ module _ (k : Links) {rank : ℕ → ℕ} {n : ℕ} (t : Forest (k .parent) rank
 
       at-or-in : (x : ℕ) → x < n → Anc (k .parent) h x → (x ≡ h) ⊎ In f x
       at-or-in x i a = elim (anc-in-kin k t l u i a) [ inl e ↦ inl (sym e) | inr z ↦ inr z ]
+
+-- How many rows the walk has met
+
+left-met : (parent : ℕ → ℕ) (x : ℕ) (s : Sizing) → offered (parent x) x (closed x s) .met ≡ s .met
+left-met parent x s = offered-only (parent x) x (closed x s) .met ∙ closed-met x s
+
+sweep-met : (parent : ℕ → ℕ) (f : Kin) (s : Sizing) → sweep (sizeVisit parent) f s .met ≡ s .met + count f
+unfolding sizeVisit
+sweep-met parent nil s = omega arith
+sweep-met parent (node r kids rest) s =
+    let b : Sizing = sweep (sizeVisit parent) kids (opened r s) in
+    omega (arith, sweep-met parent rest (offered (parent r) r (closed r b)), left-met parent r b, sweep-met parent kids (opened r s), opened-met r s)
+
+-- it has always met fewer than there are, when it goes down into a row
+pub through-sizes : (parent : ℕ → ℕ) (f : Kin) (s : Sizing) (n : ℕ) → s .met + count f ≤ n → Through (sizeVisit parent) (λ x t. t .met < n) f s
+unfolding sizeVisit
+through-sizes parent nil s n h = empty
+through-sizes parent (node r kids rest) s n h =
+    let b : Sizing = sweep (sizeVisit parent) kids (opened r s) in
+    around {t = s} (omega arith) (through-sizes parent kids (opened r s) n (omega (arith, opened-met r s)))
+    (through-sizes parent rest (offered (parent r) r (closed r b)) n (omega (arith, left-met parent r b, sweep-met parent kids (opened r s), opened-met r s)))
