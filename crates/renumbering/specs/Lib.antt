@@ -12,3 +12,4 @@ pub mod Follow
 pub mod FollowLaws
 pub mod Carried
 pub mod CarriedLaws
+pub mod WalkedLaws

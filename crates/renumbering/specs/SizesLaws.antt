@@ -28,7 +28,7 @@ module _ (x : ℕ) (s : Sizing) where
   unfolding opened
   opened-path = put-same (s .path) x none
 
-  opened-met : opened x s .met ≡ s .met + 1
+  pub opened-met : opened x s .met ≡ s .met + 1
   unfolding opened
   opened-met = refl
 
