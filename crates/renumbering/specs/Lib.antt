@@ -8,8 +8,8 @@ pub mod PlacedLaws
 pub mod NumbersLaws
 pub mod Renumbering
 pub mod RenumberingLaws
-pub mod Follow
-pub mod FollowLaws
+pub mod Loop
+pub mod LoopLaws
 pub mod Carried
 pub mod CarriedLaws
 pub mod WalkedLaws

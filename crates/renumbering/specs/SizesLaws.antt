@@ -9,11 +9,11 @@ use Rattle.laws.specs.Test.{Says, holds, fails, says-false, says-eqb, says-ltb,
 use Rattle.tree_laws.specs.Ancestor.{none, Anc, here, Forest}
 use Rattle.tree_laws.specs.AncestorLaws.{row-some, no-loop}
 use Rattle.tree_laws.specs.Size.{size}
-use Rattle.tree_laws.specs.Siblings.{Kin, nil, node, count, In, Sibling, Distinct, apart, Links, Reads, more, Whole, all, Below}
+use Rattle.tree_laws.specs.Siblings.{Kin, nil, node, count, In, Sibling, Distinct, empty, apart, Links, Reads, more, Whole, all, Below}
 use Rattle.tree_laws.specs.SiblingsLaws.{sibling-parent, in-inside, in-over, reads-distinct, in-anc, anc-in-kin, size-count}
 use Rattle.tree_laws.specs.Walk.{sweep}
 use Rattle.renumbering.specs.Column.{put-same, put-other}
-use Rattle.renumbering.specs.Follow.{Through, empty, around}
+use Rattle.renumbering.specs.Loop.{Through, empty as none-left, around}
 use Rattle.renumbering.specs.HeavyChild.{HeavyChild, absent, heavy}
 use Rattle.renumbering.specs.Sizes.{Sizing, linked, opened, counted, isLight, keptHeavy, closed, isLarger, offered, sizeVisit, sizePass}
 
@@ -312,11 +312,25 @@ sweep-met parent (node r kids rest) s =
     let b : Sizing = sweep (sizeVisit parent) kids (opened r s) in
     omega (arith, sweep-met parent rest (offered (parent r) r (closed r b)), left-met parent r b, sweep-met parent kids (opened r s), opened-met r s)
 
--- it has always met fewer than there are, when it goes down into a row
-pub through-sizes : (parent : ℕ → ℕ) (f : Kin) (s : Sizing) (n : ℕ) → s .met + count f ≤ n → Through (sizeVisit parent) (λ x t. t .met < n) f s
+sweep-size : (parent : ℕ → ℕ) (f : Kin) (s : Sizing) (y : ℕ) → ¬ In f y → sweep (sizeVisit parent) f s .size y ≡ s .size y
 unfolding sizeVisit
-through-sizes parent nil s n h = empty
-through-sizes parent (node r kids rest) s n h =
+sweep-size parent nil s y o = refl
+sweep-size parent (node r kids rest) s y o =
     let b : Sizing = sweep (sizeVisit parent) kids (opened r s) in
-    around {t = s} (omega arith) (through-sizes parent kids (opened r s) n (omega (arith, opened-met r s)))
-    (through-sizes parent rest (offered (parent r) r (closed r b)) n (omega (arith, left-met parent r b, sweep-met parent kids (opened r s), opened-met r s)))
+    sweep-size parent rest (offered (parent r) r (closed r b)) y (λ z. o (inr (inr z)))
+    ∙ offered-only (parent r) r (closed r b) .size y
+    ∙ closed-size-other r b y (λ e. o (inl e))
+    ∙ sweep-size parent kids (opened r s) y (λ z. o (inr (inl z)))
+    ∙ opened-size-other r s y (λ e. o (inl e))
+
+-- going down into a row, the walk has met fewer rows than there are; going up out of a row, it has met some since it went down
+pub through-sizes : (parent : ℕ → ℕ) {f : Kin} (s : Sizing) (n : ℕ) → Distinct f → s .met + count f ≤ n
+    → Through (sizeVisit parent) (λ x t. t .met < n) (λ x t. t .size x < t .met) f s
+unfolding sizeVisit
+through-sizes parent s n empty h = none-left
+through-sizes parent s n (apart {r = r} {kids} {rest} new alone two x y) h =
+    let b : Sizing = sweep (sizeVisit parent) kids (opened r s) in
+    let met : b .met ≡ s .met + 1 + count kids = omega (arith, sweep-met parent kids (opened r s), opened-met r s) in
+    around {t = s} (omega arith) (through-sizes parent (opened r s) n x (omega (arith, opened-met r s)))
+    (omega (arith, sweep-size parent kids (opened r s) r new, opened-size r s))
+    (through-sizes parent (offered (parent r) r (closed r b)) n y (omega (arith, left-met parent r b)))
