@@ -1,5 +1,5 @@
 -- Chains of the compressed tree are short: sizes grow by more than 12/7 from each row to its compressed parent.
-use mathlib.Core.Path.{_≡_, refl, ap, sym, _∙_}
+use mathlib.Core.Path.{_≡_, refl}
 use mathlib.Core.Bool.{Bool, true, false}
 use mathlib.Core.List.{List, [], _∷_}
 use mathlib.Core.Logic.{inl, inr, _≢_}
@@ -8,13 +8,13 @@ use native.Mathlib.Omega.{arith}
 use lib.Dec.{eqb}
 use lib.ListN.{length}
 use Rattle.laws.specs.Test.{Says, holds, fails, says-true, says-false, says-eqb, bit}
-use Rattle.laws.specs.Sum.{sumTo, sum-eq, sum-add, countTo, count-one}
+use Rattle.laws.specs.Sum.{sum-eq, sum-add, countTo, count-one}
 use Rattle.laws.specs.Chain.{Chain, chain-19}
 use Rattle.laws.specs.Ratio.{size-ratio}
 use Rattle.tree_laws.specs.Ancestor.{none, Anc, here, there, Forest, isAncestor}
 use Rattle.tree_laws.specs.AncestorLaws.{cases, climb, no-loop, says-isAncestor}
 use Rattle.tree_laws.specs.Size.{size as sizeIn}
-use Rattle.span.specs.Constants.{capacity as most}
+use Rattle.rows.specs.Capacity.{capacityLimit}
 use Rattle.rows.specs.Table.{Table, depth, upper, size, setSize}
 use Rattle.rows.specs.Rules.{Rules}
 use Rattle.growth_laws.specs.Trees.{own-trees, uppers}
@@ -64,10 +64,10 @@ size-count up rank n a = within n
 -- the sizes above x, each more than 12/7 of the one before
 record Sizes (t : Table) (x : ℕ) : Type 0 where
   list : List ℕ
-  grow : Chain most (size t x) list
+  grow : Chain capacityLimit (size t x) list
   counts : above (upper t) (depth t) (t .count) x ≡ suc (length list)
 
-module _ {capacity : ℕ} {t : Table} (r : Rules capacity t) (small : capacity ≤ most) where
+module _ {capacity : ℕ} {t : Table} (r : Rules capacity t) (small : capacity ≤ capacityLimit) where
   pub size-most : (x : ℕ) → x < t .count → size t x ≤ t .count
   size-most x l = omega (arith, r .two .size x l, size-count (upper t) (depth t) (t .count) x)
 
@@ -77,7 +77,8 @@ module _ {capacity : ℕ} {t : Table} (r : Rules capacity t) (small : capacity �
       (λ x l h s. let u : upper t x < t .count = f .inside x l h in record {
         list = size t (upper t x) ∷ s .list;
         grow = (
-          size-ratio (size t x) (size t (upper t x)) (setSize t x) (setSize t (upper t x)) (r .three x l .most) (r .three (upper t x) u .growth) (r .four x l h),
+          size-ratio (size t x) (size t (upper t x)) (setSize t x) (setSize t (upper t x)) (r .three x l .most)
+              (r .three (upper t x) u .growth) (r .four x l h),
           within x l,
           s .grow,
         );
@@ -87,7 +88,7 @@ module _ {capacity : ℕ} {t : Table} (r : Rules capacity t) (small : capacity �
       f : Forest (upper t) (depth t) (t .count)
       f = uppers (own-trees r small)
 
-      within : (x : ℕ) → x < t .count → size t x ≤ most
+      within : (x : ℕ) → x < t .count → size t x ≤ capacityLimit
       within x l = omega (arith, size-most x l, r .one .count)
 
   -- a row with another below it has at most 19 rows at or above it

@@ -2,34 +2,28 @@
 use mathlib.Core.Path.{_≡_, sym, _∙_}
 use Prim.Native.Nat.{ℕ, _≤_, _<_}
 use native.Mathlib.Omega.{arith}
-use Rattle.tree_laws.specs.Depth.{Depth}
-use Rattle.span.specs.Constants.{capacity as most}
-use Rattle.rows.specs.Table.{Table, parent, depth, upper, setSize}
+use Rattle.rows.specs.Capacity.{capacityLimit}
+use Rattle.rows.specs.Table.{Table}
 use Rattle.rows.specs.Rules.{Recorded, Rules}
 use Rattle.growth_laws.specs.Growth.{Growth}
 use Rattle.growth_laws.specs.Inserted.{Planted}
 use Rattle.growth_laws.specs.Grown.{Grown}
 use Rattle.growth_laws.specs.Ready.{Ready}
-use Rattle.growth_laws.specs.Trees.{Trees, OwnTrees, trees-rule, trees-same, recorded-depth}
-use Rattle.growth_laws.specs.PlantedLaws.{planted-same, growth-recorded}
-use Rattle.growth_laws.specs.InsertedLaws.{ready}
+use Rattle.growth_laws.specs.Trees.{OwnTrees, trees-rule, trees-same, recorded-depth}
+use Rattle.growth_laws.specs.PlantedLaws.{planted-same}
+use Rattle.growth_laws.specs.GrowthRecorded.{growth-recorded}
+use Rattle.growth_laws.specs.ReadyLaws.{ready}
 use Rattle.growth_laws.specs.RoomLaws.{room-of}
-use Rattle.growth_laws.specs.RenumberedLaws.{
-  renumbered-trees,
-  renumbered-set,
-  renumbered-small,
-  renumbered-inside,
-  renumbered-dense,
-  renumbered-apart,
-  renumbered-first,
-  renumbered-entries,
-}
+use Rattle.growth_laws.specs.RenumberedLaws.{renumbered-trees, renumbered-set, renumbered-small}
+use Rattle.growth_laws.specs.RenumberedSpans.{renumbered-inside, renumbered-dense, renumbered-apart, renumbered-first}
+use Rattle.growth_laws.specs.RenumberedEntries.{renumbered-entries}
 
 -- the stored tree after a growth
 pub grown-planted : {t d : Table} {g : Growth} {h : ℕ} → Grown t d g h → Planted t d g
 grown-planted k = planted-same (k .inserted .planted) (k .renumbered .tree)
 
-module _ {capacity : ℕ} {t d : Table} {g : Growth} {h : ℕ} (r : Rules capacity t) (small : capacity ≤ most) (room : t .count < capacity) (k : Grown t d g h) where
+module _ {capacity : ℕ} {t d : Table} {g : Growth} {h : ℕ} (r : Rules capacity t) (small : capacity ≤ capacityLimit) (room : t .count < capacity)
+    (k : Grown t d g h) where
   pub grown-ready : Ready (k .between) h
   grown-ready = ready r small room (k .named) (k .inserted) (k .head)
 

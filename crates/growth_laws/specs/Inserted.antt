@@ -43,19 +43,19 @@ pub record Planted (t m : Table) (g : Growth) : Type 0 where
   pub links : (x : ℕ) → x < t .count → LinksAfter t m (parentOf t g) (t .count) x
   pub new : NewNode t m g (t .count)
 
--- row x keeps its place in the compressed tree, and its numbers
+-- row x keeps its place in the compressed tree, its start, its set size and its entries
 pub record SamePlace (t m : Table) (x : ℕ) : Type 0 where
   pub samePath : path m x ≡ path t x
   pub sameUpper : upper m x ≡ upper t x
   pub sameSetSize : setSize m x ≡ setSize t x
   pub sameStart : start m x ≡ start t x
-  pub sameNextFree : nextFree m x ≡ nextFree t x
   pub sameEntry : (i : ℕ) → i < entryStride → m .entry x i ≡ t .entry x i
 
 -- row `t .count` is put in as a path by itself, of size 1 and set size 0; sizes grow by 1 along the chain of upper rows above it
 pub record Inserted (t m : Table) (g : Growth) : Type 0 where
   pub planted : Planted t m g
   pub old : (x : ℕ) → x < t .count → SamePlace t m x
+  pub nextFreeOld : (x : ℕ) → x < t .count → nextFree m x ≡ nextFree t x
   pub pathNew : path m (t .count) ≡ none
   pub upperNew : UpperStep (parent m) (path m) (upper m) (t .count)
   pub sizeNew : size m (t .count) ≡ 1

@@ -4,17 +4,18 @@ use mathlib.Core.Logic.{inl, inr, _≢_}
 use Prim.Native.Nat.{ℕ, _≤_, _<_}
 use native.Mathlib.Decide.{ℕ-discrete}
 use native.Mathlib.Omega.{arith}
-use Rattle.tree_laws.specs.Ancestor.{none, Anc, there, Forest}
-use Rattle.tree_laws.specs.AncestorLaws.{trans, cases, row-some, anc-in, no-loop, anc-copy, anc-back}
+use Rattle.tree_laws.specs.Ancestor.{none, Anc, Forest}
+use Rattle.tree_laws.specs.AncestorLaws.{trans, cases, row-some, anc-in, no-loop}
 use Rattle.tree_laws.specs.Depth.{Depth}
 use Rattle.tree_laws.specs.DepthLaws.{depth-forest}
 use Rattle.tree_laws.specs.Size.{size as sizeIn}
 use Rattle.tree_laws.specs.SizeLaws.{size-same}
 use Rattle.tree_laws.specs.Compressed.{Apex, Compressed, UpperStep}
 use Rattle.tree_laws.specs.CompressedLaws.{from-step, to-step, upper-first, upper-over, compressed-forest, to-stored, to-upper}
-use Rattle.span.specs.Constants.{capacity as most}
+use Rattle.rows.specs.Capacity.{capacityLimit}
 use Rattle.rows.specs.Table.{Table, parent, depth, upper, path, size}
 use Rattle.rows.specs.Rules.{Recorded, Compressed as Rule2, Rules}
+use Rattle.growth_laws.specs.StepLaws.{Near, step-copy}
 
 -- table c holds paths, compressed parents and sizes that are true of the stored tree on the rows below n
 pub record Trees (parent depth : ℕ → ℕ) (n : ℕ) (c : Table) : Type 0 where
@@ -78,7 +79,7 @@ module _ {parent depth : ℕ → ℕ} {n : ℕ} {c : Table} (k : Trees parent de
 
 -- The trees of a table that passes inspection
 
-pub recorded-depth : {capacity : ℕ} {t : Table} → Recorded capacity t → capacity ≤ most → Depth (parent t) (depth t) (t .count)
+pub recorded-depth : {capacity : ℕ} {t : Table} → Recorded capacity t → capacity ≤ capacityLimit → Depth (parent t) (depth t) (t .count)
 recorded-depth {capacity} {t} r small = record {
   small = omega (arith, r .count);
   inside = λ x l h. elim (ℕ-discrete x 0) [
@@ -89,10 +90,10 @@ recorded-depth {capacity} {t} r small = record {
   step = λ x l. r .depth x l .below;
 }
 
-pub recorded-forest : {capacity : ℕ} {t : Table} → Recorded capacity t → capacity ≤ most → Forest (parent t) (depth t) (t .count)
+pub recorded-forest : {capacity : ℕ} {t : Table} → Recorded capacity t → capacity ≤ capacityLimit → Forest (parent t) (depth t) (t .count)
 recorded-forest r small = depth-forest (recorded-depth r small)
 
-pub own-trees : {capacity : ℕ} {t : Table} → Rules capacity t → capacity ≤ most → OwnTrees t
+pub own-trees : {capacity : ℕ} {t : Table} → Rules capacity t → capacity ≤ capacityLimit → OwnTrees t
 own-trees {capacity} {t} r small = record {
   shape = recorded-depth (r .one) small;
   inUse = λ v l h. r .two .path v l h .inUse;
@@ -112,9 +113,6 @@ trees-rule k = record {
 
 module _ {parent depth parent′ depth′ : ℕ → ℕ} {n : ℕ} {c : Table} (k : Trees parent depth n c) (shape′ : Depth parent′ depth′ n)
     (same : (x : ℕ) → x < n → parent′ x ≡ parent x) where
-  apex-same : {x : ℕ} → x < n → Apex parent′ (path c) x → Apex parent (path c) x
-  apex-same {x} l a = rw (same x l) at a
-
   pub trees-same : Trees parent′ depth′ n c
   trees-same = record {
     shape = shape′;
@@ -124,20 +122,14 @@ module _ {parent depth parent′ depth′ : ℕ → ℕ} {n : ℕ} {c : Table} (
     sizes = λ v l. k .sizes v l ∙ size-same (uppers k) (compressed-forest (depth-forest shape′) both) v (λ x i r. r) (λ x i r. r);
   }
     where
-      step : (x : ℕ) → x < n → UpperStep parent′ (path c) (upper c) x
-      step x l = record {
-        root = λ e. upper-step k x l .root (sym (same x l) ∙ e);
-        apex = λ h a. upper-step k x l .apex (some h) (apex-same (inside h) (rw (same x l) at a)) ∙ sym (same x l);
-        along = λ h o. let q = inside h in
-            upper-step k x l .along (some h) record { some = rw (same x l, same (parent x) q) at (o .some); link = rw (same x l, same (parent x) q) at (o .link) }
-            ∙ rw (same x l);
+      near : (x : ℕ) → x < n → Near parent parent′ (path c) (path c) (upper c) (upper c) x
+      near x l = record {
+        sameParent = same x l;
+        sameUpper = refl;
+        aboveParent = λ i. same (parent x) (k .shape .inside x l i);
+        aboveUpper = λ _. refl;
+        abovePath = λ _ _. refl;
       }
-        where
-          some : parent′ x ≢ none → parent x ≢ none
-          some h e = h (same x l ∙ e)
-
-          inside : parent′ x ≢ none → parent x < n
-          inside h = k .shape .inside x l (some h)
 
       both : Compressed parent′ (path c) (upper c) n
-      both = from-step (depth-forest shape′) step
+      both = from-step (depth-forest shape′) (λ x l. step-copy (near x l) (upper-step k x l))
