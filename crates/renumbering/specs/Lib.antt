@@ -13,3 +13,4 @@ pub mod LoopLaws
 pub mod Carried
 pub mod CarriedLaws
 pub mod WalkedLaws
+pub mod SameRowsLaws
