@@ -1,14 +1,16 @@
 -- Renumbering a head (01, "Renumbering head v") as a function of the table: the walk for sizes, and then the walk for numbers.
-use mathlib.Core.Path.{_≡_}
-use Prim.Native.Nat.{ℕ, _<_}
+use Prim.Native.Nat.{ℕ, _-_, _*_, _<_}
 use Rattle.tree_laws.specs.Compressed.{Apex}
+use Rattle.tree_laws.specs.HeavyLast.{heavyLast}
 use Rattle.tree_laws.specs.Siblings.{Kin, Links}
+use Rattle.tree_laws.specs.Walk.{down, move, run, onEntry}
 use Rattle.rows.specs.Table.{Table, parent, upper, path, size, setSize, start, nextFree}
 use Rattle.rows.specs.StoredTree.{ChildLinks}
 use Rattle.rows.specs.Rules.{Each}
+use Rattle.growth_laws.specs.Renumbered.{rows}
 use Rattle.growth_laws.specs.Trees.{OwnTrees}
-use Rattle.renumbering.specs.Sizes.{Sizing, sizePass}
-use Rattle.renumbering.specs.Numbers.{Numbers, numberPass}
+use Rattle.renumbering.specs.Sizes.{Sizing, closed, sizeVisit, sizePass}
+use Rattle.renumbering.specs.Numbers.{Numbers, headPlaced, numbered, numberPass}
 
 -- the links that a walk in order of arrival goes by
 abbrev pub linksOf : Table → Links
@@ -45,11 +47,19 @@ withColumns m paths c = record {
   entry = c .entry;
 }
 
--- the head h and the rows f below it
+-- the head h and the rows f below it, by recursion on them
 unfoldable pub renumber : Table → ℕ → Kin → Table
 renumber m h f =
     let s : Sizing = sizePass (parent m) h f (sizesOf m) in
     withColumns m (s .path) (numberPass (parent m) (s .path) h f (numbersOf m (s .size)))
+
+-- the same by two walks with no stack: 2 · rows − 1 steps from the head down to the head up, and on the second walk the head is placed before its first step
+unfoldable pub renumberWalk : Table → ℕ → Table
+renumberWalk m h =
+    let s : Sizing = closed h (run (linksOf m) (sizeVisit (parent m)) (2 * rows m h - 1) (down h) (sizesOf m)) in
+    let k : Links = heavyLast (linksOf m) (s .path) in
+    let c : Numbers = headPlaced h (numbersOf m (s .size)) in
+    withColumns m (s .path) (run k (onEntry (numbered (parent m) (s .path))) (2 * rows m h - 2) (move k (down h)) c)
 
 -- what a renumbering needs: the trees of m are well shaped, child links list the children in order of arrival, and h is an apex
 pub record Renumberable (m : Table) (h : ℕ) : Type 0 where

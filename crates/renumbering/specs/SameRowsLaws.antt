@@ -21,7 +21,7 @@ use Rattle.growth_laws.specs.Renumbered.{Below, SameLinks, Rebuilt, entryAbove,
 use Rattle.growth_laws.specs.RebuiltLaws.{rebuilt-compressed}
 use Rattle.growth_laws.specs.Trees.{uppers}
 use Rattle.renumbering.specs.Renumbering.{Renumberable}
-use Rattle.renumbering.specs.RenumberingLaws.{tree}
+use Rattle.renumbering.specs.RenumberingLaws.{stored-tree}
 
 -- row x is the same in d and e
 pub record SameRow (d e : Table) (x : ℕ) : Type 0 where
@@ -43,7 +43,7 @@ pub record SameRows (n : ℕ) (d e : Table) : Type 0 where
 
 module _ {m d e : Table} {h : ℕ} (g : Renumberable m h) (r : Renumbered m d h) (s : SameRows (m .count) d e) where
   inside : (x : ℕ) → x < m .count → parent m x ≢ none → parent m x < m .count
-  inside = tree g .inside
+  inside = stored-tree g .inside
 
   step-same : (x : ℕ) → x < m .count → UpperStep (parent m) (path d) (upper d) x → UpperStep (parent m) (path e) (upper e) x
   step-same x l was = record {
@@ -76,8 +76,8 @@ module _ {m d e : Table} {h : ℕ} (g : Renumberable m h) (r : Renumbered m d h)
 
   size-kept : (v : ℕ) → sizeIn (upper d) (depth m) (m .count) v ≡ sizeIn (upper e) (depth m) (m .count) v
   size-kept v =
-      let f : Forest (upper d) (depth m) (m .count) = compressed-forest (tree g) before in
-      size-same f (compressed-forest (tree g) after) v
+      let f : Forest (upper d) (depth m) (m .count) = compressed-forest (stored-tree g) before in
+      size-same f (compressed-forest (stored-tree g) after) v
       (λ x l. anc-copy (λ y q. s .row y (anc-in f l q) .upper))
       (λ x l. anc-back (λ y q. s .row y (anc-in f l q) .upper))
 
@@ -85,13 +85,13 @@ module _ {m d e : Table} {h : ℕ} (g : Renumberable m h) (r : Renumbered m d h)
   upper-in : (w : ℕ) → w < m .count → Below m h w → w ≢ h → upper d w < m .count
   upper-in w l b i = elim (cases b) [
     | inl z ↦ absurd (i (sym z))
-    | inr z ↦ anc-in (tree g) (inside w l (z .0)) (before .first w l (z .0) .above)
+    | inr z ↦ anc-in (stored-tree g) (inside w l (z .0)) (before .first w l (z .0) .above)
   ]
 
   above-same : (x i : ℕ) → x < m .count → i < entryStride → entryAbove e i x ≡ entryAbove d i x
   above-same x i l j = rw (s .row x l .upper) (elim (ℕ-discrete (upper d x) none) [
     | yes z ↦ rw (says-true (says-eqb (upper d x) none) z)
-    | no n ↦ rw (says-false (says-eqb (upper d x) none) n) (s .row (upper d x) (compressed-forest (tree g) before .inside x l n) .entry i j)
+    | no n ↦ rw (says-false (says-eqb (upper d x) none) n) (s .row (upper d x) (compressed-forest (stored-tree g) before .inside x l n) .entry i j)
   ])
 
   children-same : (u : ℕ) → childSum (upper d) (λ w. fourth (setSize d w)) (m .count) u ≡ childSum (upper e) (λ w. fourth (setSize e w)) (m .count) u

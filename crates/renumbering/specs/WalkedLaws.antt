@@ -22,7 +22,7 @@ use Rattle.renumbering.specs.CarriedLaws.{sweep-carried, through-carried
 use Rattle.renumbering.specs.Loop.{turns, Through, Turning, Came}
 use Rattle.renumbering.specs.LoopLaws.{turns-add, loop-forest}
 use Rattle.renumbering.specs.Renumbering.{linksOf, sizesOf, numbersOf, withColumns, Renumberable}
-use Rattle.renumbering.specs.RenumberingLaws.{tree, head-below, sized-links, sized-start, both-walks}
+use Rattle.renumbering.specs.RenumberingLaws.{stored-tree, head-below, sized-links, sized-start, both-walks}
 
 -- x lies below the head, and is not the head
 pub record Under (m : Table) (h x : ℕ) : Type 0 where
@@ -46,19 +46,19 @@ module _ {m : Table} {h : ℕ} (g : Renumberable m h) where
   kin-below = head-below g .is
 
   rows-count : rows m h ≡ 1 + count kin
-  rows-count = size-count (linksOf m) (tree g) (g .inUse) kin-below
+  rows-count = size-count (linksOf m) (stored-tree g) (g .inUse) kin-below
 
   in-under : (x : ℕ) → In kin x → Under m h x
   in-under x z = record {
     inUse = in-inside (kin-below .whole) z;
-    below = in-anc (linksOf m) (tree g) (g .inUse) kin-below z;
-    other = λ e. head-not-in (linksOf m) (tree g) (g .inUse) kin-below (rw e at z);
+    below = in-anc (linksOf m) (stored-tree g) (g .inUse) kin-below z;
+    other = λ e. head-not-in (linksOf m) (stored-tree g) (g .inUse) kin-below (rw e at z);
   }
 
   -- The loop for sizes: its first turn goes down into the head, and it ends before it goes up out of it
 
   kin-once : Distinct kin
-  kin-once = reads-distinct (linksOf m) (tree g) (g .inUse) (kin-below .whole) (kin-below .reads)
+  kin-once = reads-distinct (linksOf m) (stored-tree g) (g .inUse) (kin-below .whole) (kin-below .reads)
 
   pub sizes-walked : {Q : Type 0} (turn : Q → Q) (Has : Position → Sizing → Q → Type 0)
       → Turning (linksOf m) turn (sizeVisit (parent m)) (λ x t. t .met < rows m h) (λ x t. t .size x < t .met) Has (Under m h)
@@ -71,7 +71,7 @@ module _ {m : Table} {h : ℕ} (g : Renumberable m h) where
         sizing = sweep (sizeVisit (parent m)) kin (opened h (sizesOf m));
         came = loop-forest (linksOf m) turn (sizeVisit (parent m)) (λ x t. t .met < rows m h) (λ x t. t .size x < t .met) Has a (turn q) (down h)
             (kin-below .reads) in-under through refl i;
-        sized = sizes-swept (linksOf m) (tree g) (g .inUse) kin-below (sizesOf m);
+        sized = sizes-swept (linksOf m) (stored-tree g) (g .inUse) kin-below (sizesOf m);
       }
 
   module _ {s : Sizing} (b : Sized (parent m) (depth m) (m .count) h (sizesOf m) s) where
@@ -106,11 +106,11 @@ module _ {m : Table} {h : ℕ} (g : Renumberable m h) where
 
     ordered-once : Distinct ordered
     unfolding heavyLast
-    ordered-once = reads-distinct (heavyLast (linksOf m) (s .path)) (tree g) (g .inUse) (ordered-below .whole) (ordered-below .reads)
+    ordered-once = reads-distinct (heavyLast (linksOf m) (s .path)) (stored-tree g) (g .inUse) (ordered-below .whole) (ordered-below .reads)
 
     head-out : ¬ In ordered h
     unfolding heavyLast
-    head-out = head-not-in (heavyLast (linksOf m) (s .path)) (tree g) (g .inUse) ordered-below
+    head-out = head-not-in (heavyLast (linksOf m) (s .path)) (stored-tree g) (g .inUse) ordered-below
 
     head-top : h ≡ topOf (parent m) (s .path) (headPlaced h (numbersOf m (s .size))) h
     unfolding topOf
@@ -123,12 +123,12 @@ module _ {m : Table} {h : ℕ} (g : Renumberable m h) where
         ≡ record { numbers = lastNumbers; top = topOf (parent m) (s .path) lastNumbers h; given = rows m h }
     unfolding heavyLast begun lastNumbers numberPass ordered
     carried-swept = rw ordered-count (sweep-carried (heavyLast (linksOf m) (s .path)) (s .path) (headPlaced h (numbersOf m (s .size))) 1
-        (row-some (tree g) (g .inUse) refl) (ordered-below .reads) ordered-once head-out head-top)
+        (row-some (stored-tree g) (g .inUse) refl) (ordered-below .reads) ordered-once head-out head-top)
 
     carried-through : Through (carriedVisit (parent m) (s .path)) (Coming (parent m) (s .path) lastNumbers (rows m h)) (λ x t. Unit {0}) ordered begun
     unfolding heavyLast begun lastNumbers numberPass ordered
     carried-through = through-carried (heavyLast (linksOf m) (s .path)) (s .path) (headPlaced h (numbersOf m (s .size))) 1 (rows m h)
-        (omega (arith, ordered-count)) (row-some (tree g) (g .inUse) refl) (ordered-below .reads) ordered-once head-out head-top
+        (omega (arith, ordered-count)) (row-some (stored-tree g) (g .inUse) refl) (ordered-below .reads) ordered-once head-out head-top
 
     pub numbers-walked : {Q : Type 0} (turn : Q → Q) (Has : Position → Carried → Q → Type 0)
         → Turning (heavyLast (linksOf m) (s .path)) turn (carriedVisit (parent m) (s .path)) (Coming (parent m) (s .path) lastNumbers (rows m h))
