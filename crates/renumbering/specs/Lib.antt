@@ -1,0 +1,16 @@
+pub mod Column
+pub mod Sizes
+pub mod HeavyChild
+pub mod SizesLaws
+pub mod Numbers
+pub mod Placed
+pub mod PlacedLaws
+pub mod NumbersLaws
+pub mod Renumbering
+pub mod RenumberingLaws
+pub mod Loop
+pub mod LoopLaws
+pub mod Carried
+pub mod CarriedLaws
+pub mod WalkedLaws
+pub mod SameRowsLaws
