@@ -23,7 +23,7 @@ unfolding digitsUpTo
 up-to-more most n h = rw (le-ltb n 10 h)
 
 -- a tenth is smaller
-tenth-below : (n : ℕ) → 10 ≤ n → n / 10 < n
+pub tenth-below : (n : ℕ) → 10 ≤ n → n / 10 < n
 tenth-below n h = omega (arith, div-add-mod' n 10)
 
 -- any bound above the number gives the same digits
@@ -32,13 +32,13 @@ up-to-any zero b n ha hb = absurd (omega arith)
 up-to-any (suc a) zero n ha hb = absurd (omega arith)
 up-to-any (suc a) (suc b) n ha hb =
     elim (decLt n 10) [
-      yes h ↦ up-to-one a n h ∙ sym (up-to-one b n h)
-    | no h ↦
-        let l : 10 ≤ n = omega arith in
-        let t = tenth-below n l in
-        up-to-more a n l
-        ∙ ap (λ (ds : List ℕ). ds ++ digit (n % 10) ∷ []) (up-to-any a b (n / 10) (omega arith) (omega arith))
-        ∙ sym (up-to-more b n l)
+      | yes h ↦ up-to-one a n h ∙ sym (up-to-one b n h)
+      | no h ↦
+          let l : 10 ≤ n = omega arith in
+          let t = tenth-below n l in
+          up-to-more a n l
+          ∙ ap (λ (ds : List ℕ). ds ++ digit (n % 10) ∷ []) (up-to-any a b (n / 10) (omega arith) (omega arith))
+          ∙ sym (up-to-more b n l)
     ]
 
 pub digits-one : (n : ℕ) → n < 10 → digits n ≡ digit n ∷ []
@@ -84,8 +84,8 @@ last-case : (P : ℕ → Type 0) (bytes : List ℕ) (b : ℕ) → ((i : ℕ) →
     → (i : ℕ) → i < length (bytes ++ b ∷ []) → P (getD (bytes ++ b ∷ []) i 0)
 last-case P bytes b all last i h =
     elim (decLt i (length bytes)) [
-      yes l ↦ rw (List·getD-append bytes (b ∷ []) 0 i l) (all i l)
-    | no l ↦ rw (getD-at bytes b [] 0 i (omega (arith, length-append bytes (b ∷ [])))) last
+      | yes l ↦ rw (List·getD-append bytes (b ∷ []) 0 i l) (all i l)
+      | no l ↦ rw (getD-at bytes b [] 0 i (omega (arith, length-append bytes (b ∷ [])))) last
     ]
 
 pub digits-are : (n i : ℕ) → i < length (digits n) → IsDigit (getD (digits n) i 0)
@@ -93,16 +93,16 @@ digits-are =
     by-tenths (λ n. (i : ℕ) → i < length (digits n) → IsDigit (getD (digits n) i 0))
     (λ n h. rw (digits-one n h) (last-case IsDigit [] (digit n) (λ i l. absurd (omega arith)) (record { low = omega arith; high = omega arith })))
     (λ n h tenth.
-      rw (digits-more n h)
-      (last-case IsDigit (digits (n / 10)) (digit (n % 10)) tenth (record { low = omega arith; high = omega (arith, mod-lt n {m = 10} (omega arith)) })))
+    rw (digits-more n h)
+    (last-case IsDigit (digits (n / 10)) (digit (n % 10)) tenth (record { low = omega arith; high = omega (arith, mod-lt n {m = 10} (omega arith)) })))
 
 pub digits-lead : (n : ℕ) → 0 < n → 48 < getD (digits n) 0 0
 digits-lead =
     by-tenths (λ n. 0 < n → 48 < getD (digits n) 0 0)
     (λ n h p. rw (digits-one n h) (omega arith))
     (λ n h tenth p.
-      rw (digits-more n h, List·getD-append (digits (n / 10)) (digit (n % 10) ∷ []) 0 0 (digits-some (n / 10)))
-      (tenth (omega (arith, div-add-mod' n 10, mod-lt n {m = 10} (omega arith)))))
+    rw (digits-more n h, List·getD-append (digits (n / 10)) (digit (n % 10) ∷ []) 0 0 (digits-some (n / 10)))
+    (tenth (omega (arith, div-add-mod' n 10, mod-lt n {m = 10} (omega arith)))))
 
 -- ---- how many digits
 
@@ -110,11 +110,11 @@ pub length-digits : (k n : ℕ) → n < 10 ^ suc k → length (digits n) ≤ suc
 length-digits zero n h = rw (digits-one n h) (omega arith)
 length-digits (suc k) n h =
     elim (decLt n 10) [
-      yes l ↦ rw (digits-one n l) (omega arith)
-    | no l ↦
-        let m : 10 ≤ n = omega arith in
-        let tenth = length-digits k (n / 10) (div-lt-iff-lt-mul {k = 10} (omega arith) .1 (rw (pow-suc 10 (suc k)) at h)) in
-        rw (digits-more n m, length-append (digits (n / 10)) (digit (n % 10) ∷ [])) (omega arith)
+      | yes l ↦ rw (digits-one n l) (omega arith)
+      | no l ↦
+          let m : 10 ≤ n = omega arith in
+          let tenth = length-digits k (n / 10) (div-lt-iff-lt-mul {k = 10} (omega arith) .1 (rw (pow-suc 10 (suc k)) at h)) in
+          rw (digits-more n m, length-append (digits (n / 10)) (digit (n % 10) ∷ [])) (omega arith)
     ]
 
 -- a number of 32 bits takes at most ten digits
