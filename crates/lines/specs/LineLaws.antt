@@ -7,7 +7,7 @@ use native.Mathlib.Omega.{arith}
 use lib.IntN.{ℤ, pos, natAbs}
 use lib.ListN.{length, getD, take, drop, length-append, length-take, drop-of-length-le}
 use lib.Seq.{drop-cons, getD-take}
-use Rattle.lines.specs.declared.text.Text.{Text}
+use Rattle.lines.specs.declared.Text.{Text}
 use Rattle.lines.specs.Decimal.{digits, signed}
 use Rattle.lines.specs.DecimalLaws.{length-digits-32, length-signed-32}
 use Rattle.lines.specs.Line.{space, newline, valuesOf, lineOf, headerLine, endLine}

@@ -11,7 +11,7 @@ use lib.Dec.{T}
 use lib.IntN.{ℤ, pos, negsuc, natAbs, _-ℤ_}
 use lib.Signed.{ltZ, nonNeg, mag}
 use borrow.Author.Tests.{ltb-true, le-ltb}
-use Rattle.lines.specs.declared.text.Text.{Text}
+use Rattle.lines.specs.declared.Text.{Text}
 use Rattle.lines.specs.Decimal.{digits, signed}
 use Rattle.lines.specs.Text.{push, append}
 

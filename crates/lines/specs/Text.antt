@@ -4,7 +4,7 @@ use Prim.Native.Nat.{ℕ, _+_, _-_}
 use lib.Dec.{ltb}
 use lib.ListN.{length, set, replicate}
 use Rattle.laws.specs.Test.{pick}
-use Rattle.lines.specs.declared.text.Text.{Text}
+use Rattle.lines.specs.declared.Text.{Text}
 
 -- the text of a line: its bytes, zeros after them, and how many they are
 unfoldable pub textOf : List ℕ → Text

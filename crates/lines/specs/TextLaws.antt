@@ -7,7 +7,7 @@ use native.Mathlib.Omega.{arith}
 use lib.ListN.{length, set, replicate, length-append}
 use lib.Seq.{append-snoc, set-append-seam}
 use borrow.Author.Tests.{lt-ltb, le-ltb}
-use Rattle.lines.specs.declared.text.Text.{Text}
+use Rattle.lines.specs.declared.Text.{Text}
 use Rattle.lines.specs.Decimal.{digit, digits, signed}
 use Rattle.lines.specs.DecimalLaws.{digits-one, digits-more}
 use Rattle.lines.specs.Text.{textOf, push, append}

@@ -1,6 +1,6 @@
 // Numbers in decimal.
-use crate::text::Text;
-use crate::text::put_byte;
+use crate::Text;
+use crate::bytes::put_byte;
 ghost use mathlib.Core.Path.{_≡_};
 ghost use lib.IntN.{natAbs};
 ghost use Prim.Native.Nat.{_<_};

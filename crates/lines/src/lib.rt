@@ -1,16 +1,21 @@
 // The lines that the log program prints (document 01, "Program and figures to check").
+mod bytes;
 mod decimal;
-mod text;
 
+use bytes::empty;
+use bytes::put_byte;
 use decimal::put_number;
 use decimal::put_signed;
-use text::Text;
-use text::empty;
-use text::put_byte;
 ghost use mathlib.Core.Path.{_≡_};
 ghost use lib.ListN.{take};
 ghost use Rattle.lines.specs.Line.{lineOf, headerLine, endLine, valuesOf};
 ghost use Rattle.lines.specs.Text.{textOf, append};
+
+// The bytes of a line, and how many they are.
+pub struct Text {
+    pub bytes: [u8; 96],
+    pub len: usize,
+}
 
 // The first values, each with a space before it.
 fn put_values(mut t: Text, values: [i32; 6], count: usize) -> Text

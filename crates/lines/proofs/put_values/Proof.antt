@@ -7,7 +7,7 @@ use mir.ValLaws.{toZ-ofZ}
 use borrow.Author.Needs.{needs}
 use lib.IntN.{pos}
 use lib.ListN.{getD, take, drop, length-take}
-use Rattle.lines.specs.declared.text.Text.{Text}
+use Rattle.lines.specs.declared.Text.{Text}
 use Rattle.lines.specs.Line.{valuesOf}
 use Rattle.lines.specs.LineLaws.{append-values, append-no-values}
 use Rattle.lines.specs.Text.{append}

@@ -5,7 +5,7 @@ use native.Mathlib.Nat.{mod-lt}
 use native.Mathlib.Omega.{arith}
 use borrow.Fn.Kinds.{In}
 use borrow.Fn.PlainCycle.{Measures, is, falls, and}
-use Rattle.lines.specs.declared.text.Text.{Text}
+use Rattle.lines.specs.declared.Text.{Text}
 use Rattle.lines.specs.Decimal.{digit}
 use Rattle.lines.specs.DecimalLaws.{tenth-below}
 use Rattle.lines.specs.Text.{push}

@@ -1,8 +1,8 @@
--- `text::empty` is the text of an empty line.
+-- `bytes::empty` is the text of an empty line.
 use mathlib.Core.Path.{refl}
 use Rattle.lines.specs.Text.{textOf}
-use Rattle.lines.proofs.text.empty.Statement.{statement}
-use Rattle.lines.proofs.text.empty.Tie as tie
+use Rattle.lines.proofs.bytes.empty.Statement.{statement}
+use Rattle.lines.proofs.bytes.empty.Tie as tie
 
 returns : tie.Need-returns
 unfolding textOf

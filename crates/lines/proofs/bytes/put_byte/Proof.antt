@@ -1,9 +1,9 @@
--- `text::put_byte` is `push`: the test says whether there is room.
+-- `bytes::put_byte` is `push`: the test says whether there is room.
 use mathlib.Core.Path.{sym}
 use borrow.Author.Needs.{needs}
 use Rattle.lines.specs.TextLaws.{push-room, push-full}
-use Rattle.lines.proofs.text.put_byte.Statement.{statement}
-use Rattle.lines.proofs.text.put_byte.Tie as tie
+use Rattle.lines.proofs.bytes.put_byte.Statement.{statement}
+use Rattle.lines.proofs.bytes.put_byte.Tie as tie
 
 element-write-t : tie.Need-element-write-t
 element-write-t c = search needs

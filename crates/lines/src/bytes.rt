@@ -1,13 +1,8 @@
 // A line in a buffer, written byte by byte.
+use crate::Text;
 ghost use mathlib.Core.Path.{_≡_};
 ghost use mathlib.Core.List.{[]};
 ghost use Rattle.lines.specs.Text.{textOf, push};
-
-// The bytes of a line, and how many they are.
-pub struct Text {
-    pub bytes: [u8; 96],
-    pub len: usize,
-}
 
 // No byte yet.
 pub fn empty() -> Text
