@@ -1,12 +1,14 @@
 -- Numbers as they are printed (document 01, "Program and figures to check"): decimal digits as bytes, the most significant first.
 use mathlib.Core.List.{List, [], _∷_, _++_}
 use Prim.Native.Nat.{ℕ, zero, suc, _+_, _-_, _*_, _/_, _%_}
+use Prim.Native.Char.{code}
 use lib.Dec.{ltb, eqb}
 use lib.IntN.{ℤ, pos, negsuc, negℤ}
 use lib.ListN.{getD, drop}
 use Rattle.laws.specs.Test.{pick}
+use Rattle.lines.specs.Bytes.{bytesOf}
 
--- the byte of a digit below ten
+-- the byte of a digit, which for 0 is 48
 abbrev pub digit : ℕ → ℕ
 digit n = 48 + n
 
@@ -22,7 +24,7 @@ digits n = digitsUpTo (suc n) n
 -- a whole number, with a minus sign where it is below zero
 abbrev pub signed : ℤ → List ℕ
 signed (pos n) = digits n
-signed (negsuc n) = 45 ∷ digits (suc n)
+signed (negsuc n) = bytesOf "-" ++ digits (suc n)
 
 -- ---- reading back
 
@@ -37,4 +39,4 @@ valueOf bytes = readOn 0 bytes
 
 -- the whole number that digits spell, with or without a minus sign
 unfoldable pub signedValueOf : List ℕ → ℤ
-signedValueOf bytes = pick (eqb (getD bytes 0 0) 45) (negℤ (pos (valueOf (drop 1 bytes)))) (pos (valueOf bytes))
+signedValueOf bytes = pick (eqb (getD bytes 0 0) (code "-")) (negℤ (pos (valueOf (drop 1 bytes)))) (pos (valueOf bytes))

@@ -4,6 +4,7 @@ use mathlib.Core.Bool.{true, false}
 use Prim.Native.Nat.{ℕ, suc, _+_, _-_}
 use native.Mathlib.Numerals.{add-one}
 use native.Mathlib.Omega.{arith}
+use Prim.Native.Char.{code}
 use mir.Syntax.{w32}
 use mir.Val.{SFits, toZ, ofZ}
 use mir.ValLaws.{toZ-ofZ}
@@ -35,7 +36,7 @@ read-less v f h = rw (minus-one-less v h) (toZ-ofZ w32 (pos (mag v)) (record { s
 
 -- ---- the digits
 
-pub append-below-zero : (t : Text) (v : ℤ) → ltZ v (pos 0) ≡ true → append (push t 45) (digits (natAbs v)) ≡ append t (signed v)
+pub append-below-zero : (t : Text) (v : ℤ) → ltZ v (pos 0) ≡ true → append (push t (code "-")) (digits (natAbs v)) ≡ append t (signed v)
 unfolding append
 append-below-zero t (pos n) h = absurd (omega (arith, ltb-true n 0 h))
 append-below-zero t (negsuc n) h = refl

@@ -1,6 +1,6 @@
 -- `end_line` writes the last line part by part.
-use Rattle.lines.specs.LineLaws.{end-written}
 use borrow.Author.Needs.{needs}
+use Rattle.lines.specs.LineLaws.{end-written}
 use Rattle.lines.proofs.end_line.Statement.{statement}
 use Rattle.lines.proofs.end_line.Tie as tie
 
@@ -34,7 +34,8 @@ put-byte-requires-6 c κs = search needs
 returns : tie.Need-returns
 returns c =
     let s = c .before .before .before .before .before .before .before .before .before in
-    simp (
+    end-written (c .put-byte6 .result) (s .args .count) (s .args .total) (s .fits .count .fits) (s .fits .total .fits)
+    (simp (
       c .put-byte6 .ensures,
       c .before .put-number2 .ensures,
       c .before .before .put-byte5 .ensures,
@@ -44,8 +45,7 @@ returns c =
       c .before .before .before .before .before .before .put-byte2 .ensures,
       c .before .before .before .before .before .before .before .put-byte .ensures,
       c .before .before .before .before .before .before .before .before .empty .ensures,
-    )
-    (end-written (s .args .count) (s .args .total) (s .fits .count .fits) (s .fits .total .fits))
+    ))
 
 pub end-line-spec : {M : Type 1} → statement M
 end-line-spec =

@@ -1,6 +1,6 @@
 -- `header` writes the first line byte by byte.
-use Rattle.lines.specs.LineLaws.{header-written}
 use borrow.Author.Needs.{needs}
+use Rattle.lines.specs.LineLaws.{header-written}
 use Rattle.lines.proofs.header.Statement.{statement}
 use Rattle.lines.proofs.header.Tie as tie
 
@@ -31,7 +31,8 @@ put-byte-requires-6 c κs = search needs
 returns : tie.Need-returns
 returns c =
     let s = c .before .before .before .before .before .before .before .before in
-    simp (
+    header-written (c .put-byte6 .result) (s .args .capacity) (s .fits .capacity .fits)
+    (simp (
       c .put-byte6 .ensures,
       c .before .put-number .ensures,
       c .before .before .put-byte5 .ensures,
@@ -40,8 +41,7 @@ returns c =
       c .before .before .before .before .before .put-byte2 .ensures,
       c .before .before .before .before .before .before .put-byte .ensures,
       c .before .before .before .before .before .before .before .empty .ensures,
-    )
-    (header-written (s .args .capacity) (s .fits .capacity .fits))
+    ))
 
 pub header-spec : {M : Type 1} → statement M
 header-spec =

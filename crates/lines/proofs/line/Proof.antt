@@ -1,7 +1,7 @@
 -- `line` writes the line of a field part by part.
+use borrow.Author.Needs.{needs}
 use Rattle.lines.specs.LineLaws.{line-written}
 use Rattle.lines.proofs.Values.{values-small}
-use borrow.Author.Needs.{needs}
 use Rattle.lines.proofs.line.Statement.{statement}
 use Rattle.lines.proofs.line.Tie as tie
 
@@ -28,15 +28,15 @@ returns c =
     let s = c .before .before .before .before .before .before in
     let a = s .args in
     let g = s .good .1 .1 .0 .1 in
-    simp (
+    line-written (c .put-byte3 .result) (a .ordinal) (a .letter) (a .values) (a .count) (s .fits .ordinal .fits) (g .0 .1) (values-small (a .values) _ (g .1))
+    (simp (
       c .put-byte3 .ensures,
       c .before .put-values .ensures,
       c .before .before .put-byte2 .ensures,
       c .before .before .before .put-byte .ensures,
       c .before .before .before .before .put-number .ensures,
       c .before .before .before .before .before .empty .ensures,
-    )
-    (line-written (a .ordinal) (a .letter) (a .values) (a .count) (s .fits .ordinal .fits) (g .0 .1) (values-small (a .values) _ (g .1)))
+    ))
 
 pub line-spec : {M : Type 1} → statement M
 line-spec =
