@@ -1,11 +1,10 @@
 -- What a function is told of an array of signed values: each fits its bits.
 use mathlib.Core.List.{List, [], _∷_}
-use Prim.Native.Nat.{ℕ, zero, suc, _<_}
+use Prim.Native.Nat.{zero, suc}
 use native.Mathlib.Omega.{arith}
 use mir.Syntax.{w32}
 use mir.Val.{Val}
-use lib.IntN.{ℤ, pos}
-use lib.ListN.{length}
+use lib.IntN.{ℤ}
 use lib.Signed.{natAbs-le}
 use denote.Array.{each}
 use denote.Shadow.{shadow}

@@ -1,5 +1,5 @@
 -- A whole number's sign and magnitude, as 32 signed bits compute them: below zero, minus one less the number cannot overflow.
-use mathlib.Core.Path.{_≡_, refl, sym, ap, _∙_}
+use mathlib.Core.Path.{_≡_, refl}
 use mathlib.Core.Bool.{true, false}
 use Prim.Native.Nat.{ℕ, suc, _+_, _-_}
 use native.Mathlib.Numerals.{add-one}

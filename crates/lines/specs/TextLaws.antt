@@ -1,6 +1,6 @@
 -- Laws of a text written byte by byte: bytes that fit stand in it in their order.
 use mathlib.Core.Path.{_≡_, refl, sym, ap, _∙_}
-use mathlib.Core.List.{List, [], _∷_, _++_, append-assoc, append-nil}
+use mathlib.Core.List.{List, [], _∷_, _++_, append-nil}
 use Prim.Native.Nat.{ℕ, suc, _+_, _-_, _/_, _%_, _≤_, _<_}
 use native.Mathlib.Numerals.{add-one}
 use native.Mathlib.Omega.{arith}
@@ -8,7 +8,7 @@ use lib.ListN.{length, set, replicate, length-append}
 use lib.Seq.{append-snoc, set-append-seam}
 use borrow.Author.Tests.{lt-ltb, le-ltb}
 use Rattle.lines.specs.declared.Text.{Text}
-use Rattle.lines.specs.Decimal.{digit, digits, signed}
+use Rattle.lines.specs.Decimal.{digit, digits}
 use Rattle.lines.specs.DecimalLaws.{digits-one, digits-more}
 use Rattle.lines.specs.Text.{textOf, push, append}
 
@@ -54,9 +54,10 @@ append-text line (b ∷ more) h =
     (append-text (line ++ b ∷ []) more (omega (arith, length-append line (b ∷ []))) ∙ ap textOf (append-snoc line b more))
 
 -- bytes that fit make the text of their line
-pub append-line : (t : Text) (line : List ℕ) → length line ≤ 96 → t ≡ append (textOf []) line → (t ≡ textOf line) × (t .len ≤ 96)
+pub append-line : (t : Text) (line : List ℕ) → length line ≤ 96 → t ≡ append (textOf []) line → (t ≡ textOf line) × (t .len ≤ length (t .bytes))
 unfolding textOf
-append-line t line h e = let whole = e ∙ append-text [] line (omega arith) in (whole, rw whole h)
+append-line t line h e =
+    let whole = e ∙ append-text [] line (omega arith) in (whole, rw whole (omega (arith, length-append line (replicate (96 - length line) 0))))
 
 -- ---- a number more
 
