@@ -27,7 +27,7 @@ use Rattle.growth_laws.specs.RebuiltLaws.{rebuilt-compressed}
 use Rattle.growth_laws.specs.Trees.{stored, upper-out}
 use Rattle.renumbering.specs.HeavyChild.{heavy-in-use, heavy-over, heavy-half, light-half}
 use Rattle.renumbering.specs.Sizes.{Sizing, closed, sizeVisit, sizePass}
-use Rattle.renumbering.specs.SizesLaws.{Sized, sizes-swept}
+use Rattle.renumbering.specs.SizesSwept.{Sized, sizes-swept}
 use Rattle.renumbering.specs.Numbers.{Numbers, headStart, headPlaced, numbered, numberPass}
 use Rattle.renumbering.specs.Placed.{share, Start}
 use Rattle.renumbering.specs.NumbersLaws.{sum-once, AllPlaced, numbers-swept}
@@ -117,7 +117,8 @@ module _ {m : Table} {h : ℕ} {s : Sizing} (g : Renumberable m h) (q : Sized (p
     -- every compressed child of a row below the head is placed
     shares-all : (u : ℕ) → u < m .count → Below m h u → sumOf (share c u) (a .list) ≡ childSum (c .upper) (λ w. fourth (c .setSize w)) (m .count) u
     unfolding childSum
-    shares-all u l r = sum-once (share c u) (m .count) (a .done .once) (a .done .inUse) (λ w i z. rw (says-false (says-eqb (c .upper w) u) (other w i z)) (omega arith))
+    shares-all u l r = sum-once (share c u) (m .count) (a .done .once) (a .done .inUse)
+        (λ w i z. rw (says-false (says-eqb (c .upper w) u) (other w i z)) (omega arith))
       where
         other : (w : ℕ) → w < m .count → ¬ Member (a .list) w → c .upper w ≢ u
         other w i z e =
