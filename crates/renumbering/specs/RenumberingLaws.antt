@@ -21,7 +21,9 @@ use Rattle.tree_laws.specs.Size.{size as sizeIn, childSum}
 use Rattle.tree_laws.specs.Walk.{down, move, run, onEntry}
 use Rattle.tree_laws.specs.WalkLaws.{run-size, run-forest}
 use Rattle.rows.specs.Table.{Table, parent, depth, upper, path}
-use Rattle.rows.specs.StoredTree.{FirstFrom, absent as no-first, least}
+use Rattle.rows.specs.StoredTree.{FirstFrom, absent as no-first, least, ChildLinks}
+use Rattle.rows.specs.Rules.{Each}
+use Rattle.growth_laws.specs.Ready.{Ready}
 use Rattle.growth_laws.specs.Renumbered.{Below, rows, Rebuilt, Renumbered}
 use Rattle.growth_laws.specs.RebuiltLaws.{rebuilt-compressed}
 use Rattle.growth_laws.specs.Trees.{stored, upper-out}
@@ -42,6 +44,11 @@ start-some c h i = rw (says-false (says-eqb (c .upper h) none) i)
 start-none : (c : Numbers) (h : ℕ) → c .upper h ≡ none → headStart c h ≡ 0
 unfolding headStart
 start-none c h e = rw (says-true (says-eqb (c .upper h) none) e)
+
+-- A table with a new row in it, whose head is to be renumbered
+
+pub ready-renumberable : {m : Table} {h : ℕ} → Ready m h → Each m (ChildLinks m) → Renumberable m h
+ready-renumberable r c = record { trees = r .trees; children = c; inUse = r .inUse; apex = r .apex }
 
 -- Child links in order of arrival
 
