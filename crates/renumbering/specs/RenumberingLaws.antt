@@ -21,13 +21,15 @@ use Rattle.tree_laws.specs.Size.{size as sizeIn, childSum}
 use Rattle.tree_laws.specs.Walk.{down, move, run, onEntry}
 use Rattle.tree_laws.specs.WalkLaws.{run-size, run-forest}
 use Rattle.rows.specs.Table.{Table, parent, depth, upper, path}
-use Rattle.rows.specs.StoredTree.{FirstFrom, absent as no-first, least}
+use Rattle.rows.specs.StoredTree.{FirstFrom, absent as no-first, least, ChildLinks}
+use Rattle.rows.specs.Rules.{Each}
+use Rattle.growth_laws.specs.Ready.{Ready}
 use Rattle.growth_laws.specs.Renumbered.{Below, rows, Rebuilt, Renumbered}
 use Rattle.growth_laws.specs.RebuiltLaws.{rebuilt-compressed}
 use Rattle.growth_laws.specs.Trees.{stored, upper-out}
 use Rattle.renumbering.specs.HeavyChild.{heavy-in-use, heavy-over, heavy-half, light-half}
 use Rattle.renumbering.specs.Sizes.{Sizing, closed, sizeVisit, sizePass}
-use Rattle.renumbering.specs.SizesLaws.{Sized, sizes-swept}
+use Rattle.renumbering.specs.SizesSwept.{Sized, sizes-swept}
 use Rattle.renumbering.specs.Numbers.{Numbers, headStart, headPlaced, numbered, numberPass}
 use Rattle.renumbering.specs.Placed.{share, Start}
 use Rattle.renumbering.specs.NumbersLaws.{sum-once, AllPlaced, numbers-swept}
@@ -42,6 +44,11 @@ start-some c h i = rw (says-false (says-eqb (c .upper h) none) i)
 start-none : (c : Numbers) (h : ℕ) → c .upper h ≡ none → headStart c h ≡ 0
 unfolding headStart
 start-none c h e = rw (says-true (says-eqb (c .upper h) none) e)
+
+-- A table with a new row in it, whose head is to be renumbered
+
+pub ready-renumberable : {m : Table} {h : ℕ} → Ready m h → Each m (ChildLinks m) → Renumberable m h
+ready-renumberable r c = record { trees = r .trees; children = c; inUse = r .inUse; apex = r .apex }
 
 -- Child links in order of arrival
 
@@ -117,7 +124,8 @@ module _ {m : Table} {h : ℕ} {s : Sizing} (g : Renumberable m h) (q : Sized (p
     -- every compressed child of a row below the head is placed
     shares-all : (u : ℕ) → u < m .count → Below m h u → sumOf (share c u) (a .list) ≡ childSum (c .upper) (λ w. fourth (c .setSize w)) (m .count) u
     unfolding childSum
-    shares-all u l r = sum-once (share c u) (m .count) (a .done .once) (a .done .inUse) (λ w i z. rw (says-false (says-eqb (c .upper w) u) (other w i z)) (omega arith))
+    shares-all u l r = sum-once (share c u) (m .count) (a .done .once) (a .done .inUse)
+        (λ w i z. rw (says-false (says-eqb (c .upper w) u) (other w i z)) (omega arith))
       where
         other : (w : ℕ) → w < m .count → ¬ Member (a .list) w → c .upper w ≢ u
         other w i z e =

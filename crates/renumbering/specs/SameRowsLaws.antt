@@ -1,10 +1,10 @@
 -- A table with the same rows in use as a renumbered one is renumbered too: what lies past the count does not matter.
-use mathlib.Core.Path.{_≡_, refl, ap, sym, _∙_}
+use mathlib.Core.Path.{_≡_, ap, sym, _∙_}
 use mathlib.Core.Logic.{inl, inr, _≢_}
 use Prim.Native.Nat.{ℕ, _+_, _*_, _<_}
 use native.Mathlib.Decide.{ℕ-discrete}
 use lib.Dec.{eqb}
-use Rattle.laws.specs.Test.{says-true, says-false, says-eqb, pick}
+use Rattle.laws.specs.Test.{says-true, says-false, says-eqb}
 use Rattle.laws.specs.Fourth.{fourth}
 use Rattle.tree_laws.specs.Ancestor.{none, Forest}
 use Rattle.tree_laws.specs.AncestorLaws.{cases, anc-in, anc-copy, anc-back}
