@@ -101,8 +101,8 @@ fn head_of(fields: &[u16], top: u16, leaf: u16, upper: u16) -> Head
 fn is_seated(numbers: &[u64], head: Head) -> bool
     ensures { λ r. ⌜ r ≡ isSeated (now (numbers .entry)) head ⌝ }
 {
-    let fits = Span::new(number(numbers, head.upper, NEXT_FREE), head.rows).fits();
-    ((head.row == 0) | (head.upper != NONE)) & fits
+    let inside = Span::new(number(numbers, head.upper, NEXT_FREE), head.rows).within_limit();
+    ((head.row == 0) | (head.upper != NONE)) & inside
 }
 
 // The walk below a head that is not the leaf meets as many rows as its size says.

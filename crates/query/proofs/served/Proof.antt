@@ -1,0 +1,81 @@
+-- `served`: each test in turn, or the plain answer, whose rows are sound.
+use mathlib.Core.Path.{_≡_, sym, ap, _∙_}
+use mathlib.Core.Bool.{Bool, true, false}
+use borrow.Author.Tests.{not-true, not-false}
+use Rattle.rows.specs.Table.{Table}
+use Rattle.query.specs.declared.stored.Fork.{Fork}
+use Rattle.query.specs.Reading.{asTable}
+use Rattle.query.specs.PlainAnswer.{plainAnswer}
+use Rattle.query.specs.Question.{valuesOf, isServed, served}
+use Rattle.query.specs.QuestionLaws.{tests-asked, plain-in-range}
+use borrow.Author.Needs.{needs}
+use Rattle.query.proofs.served.Statement.{statement}
+use Rattle.query.proofs.served.Tie as tie
+
+is-row-requires : tie.Need-is-row-requires
+is-row-requires c κs = search needs
+
+returns : tie.Need-returns
+unfolding served isServed
+returns c = rw (sym (c .before .is-row .ensures) ∙ not-true _ (c .if1 .taken))
+
+is-row-requires-2 : tie.Need-is-row-requires-2
+is-row-requires-2 c κs = search needs
+
+returns-2 : tie.Need-returns-2
+unfolding served isServed
+returns-2 c = rw (sym (c .before .before .before .is-row .ensures) ∙ not-false _ (c .before .before .if1 .left), sym (c .before .is-row2 .ensures) ∙ not-true _ (c .if2 .taken))
+
+is-row-requires-3 : tie.Need-is-row-requires-3
+is-row-requires-3 c κs = search needs
+
+returns-3 : tie.Need-returns-3
+unfolding served isServed
+returns-3 c = rw (sym (c .before .before .before .before .before .is-row .ensures) ∙ not-false _ (c .before .before .before .before .if1 .left), sym (c .before .before .before .is-row2 .ensures) ∙ not-false _ (c .before .before .if2 .left), sym (c .before .is-row3 .ensures) ∙ not-true _ (c .if3 .taken))
+
+plain-answer-requires : tie.Need-plain-answer-requires
+plain-answer-requires c κs =
+    (c .before .before .before .before .before .before .before .before .before .pre, tests-asked _ _ _ (sym (c .before .before .before .before .before .is-row .ensures) ∙ not-false _ (c .before .before .before .before .if1 .left)) (sym (c .before .before .before .is-row2 .ensures) ∙ not-false _ (c .before .before .if2 .left)) (sym (c .before .is-row3 .ensures) ∙ not-false _ (c .if3 .left)))
+
+returns-4 : tie.Need-returns-4
+unfolding served isServed
+returns-4 c =
+    rw (
+      sym (c .before .before .before .before .before .before .before .before .is-row .ensures) ∙ not-false _ (c .before .before .before .before .before .before .before .if1 .left),
+      sym (c .before .before .before .before .before .before .is-row2 .ensures) ∙ not-false _ (c .before .before .before .before .before .if2 .left),
+      sym (c .before .before .before .before .is-row3 .ensures) ∙ not-false _ (c .before .before .before .if3 .left),
+      sym (ap (λ (f : Fork). f .sound) (c .before .before .plain-answer .ensures)) ∙ not-true _ (c .if4 .taken),
+    )
+
+answer-of-requires : tie.Need-answer-of-requires
+answer-of-requires c κs =
+    let answer = c .before .before .plain-answer .ensures in
+    rw answer
+    (plain-in-range _ _ _ (tests-asked _ _ _ (sym (c .before .before .before .before .before .before .before .before .is-row .ensures) ∙ not-false _ (c .before .before .before .before .before .before .before .if1 .left)) (sym (c .before .before .before .before .before .before .is-row2 .ensures) ∙ not-false _ (c .before .before .before .before .before .if2 .left)) (sym (c .before .before .before .before .is-row3 .ensures) ∙ not-false _ (c .before .before .before .if3 .left))) (sym (ap (λ (f : Fork). f .sound) answer) ∙ not-false _ (c .if4 .left)))
+
+returns-5 : tie.Need-returns-5
+unfolding served isServed
+returns-5 c =
+    rw (
+      sym (c .before .before .before .before .before .before .before .before .before .is-row .ensures) ∙ not-false _ (c .before .before .before .before .before .before .before .before .if1 .left),
+      sym (c .before .before .before .before .before .before .before .is-row2 .ensures) ∙ not-false _ (c .before .before .before .before .before .before .if2 .left),
+      sym (c .before .before .before .before .before .is-row3 .ensures) ∙ not-false _ (c .before .before .before .before .if3 .left),
+      sym (ap (λ (f : Fork). f .sound) (c .before .before .before .plain-answer .ensures)) ∙ not-false _ (c .before .if4 .left),
+      ← c .before .before .before .plain-answer .ensures,
+    )
+    (c .answer-of .ensures)
+
+pub served-spec : {M : Type 1} → statement M
+served-spec =
+    tie.close
+    (tie.spec
+    is-row-requires
+    returns
+    is-row-requires-2
+    returns-2
+    is-row-requires-3
+    returns-3
+    plain-answer-requires
+    returns-4
+    answer-of-requires
+    returns-5)

@@ -1,0 +1,103 @@
+-- On every table the row that a sound answer names was read: it is in use and sound.
+use mathlib.Core.Path.{_≡_, refl}
+use mathlib.Core.Bool.{Bool, true, false, _||_, _&&_, not}
+use Prim.Native.Nat.{ℕ}
+use native.Mathlib.Omega.{arith}
+use lib.Dec.{eqb, leb}
+use Rattle.laws.specs.Test.{pick, says-get}
+use Rattle.tree_laws.specs.Ancestor.{none}
+use Rattle.tree_laws.specs.Compressed.{isApex}
+use Rattle.tree_laws.specs.StoredFromCompressed.{pathRow, higher}
+use Rattle.tree_laws.specs.PlainFromStored.{plainNca}
+use Rattle.rows.specs.Table.{Table, parent, path, depth, upper}
+use Rattle.rows.specs.Spans.{p}
+use Rattle.query.specs.declared.compressed.Side.{Side}
+use Rattle.query.specs.declared.stored.Fork.{Fork}
+use Rattle.query.specs.Reading.{IsRow, isRow}
+use Rattle.query.specs.ReadingLaws.{says-row}
+use Rattle.query.specs.CompressedStep.{climb, atEntry, pastEntry, pastReach, pastSpan, sideFrom}
+use Rattle.query.specs.StoredAnswer.{pathRowOf, isOnRow, forked, meeting, join, lost, alone, storedFrom, storedAnswer}
+use Rattle.query.specs.PlainAnswer.{Asked, plainFrom, plainAnswer}
+
+-- two tests that both hold
+both : (a b : Bool) → a && b ≡ true → (a ≡ true) × (b ≡ true)
+both true b e = (refl, e)
+both false b e = let z : _≡_ {A = ℕ} 0 1 = cc in absurd (omega arith)
+
+-- both rows of a side are rows in use and sound
+pub record SideRows (t : Table) (s : Side) : Type 0 where
+  pub row : IsRow t (s .row)
+  pub below : IsRow t (s .below)
+
+module _ (t : Table) where
+  is-row : (v : ℕ) → isRow t v ≡ true → IsRow t v
+  is-row v e = says-get (says-row t v) e
+
+  climb-rows : (stay : Bool) (s : Side) → (s .sound ≡ true → SideRows t s) → climb t stay s .sound ≡ true → SideRows t (climb t stay s)
+  unfolding climb
+  climb-rows true s h e = h e
+  climb-rows false s h e =
+      let z = both (s .sound) (isRow t (upper t (s .row))) e in
+      record { row = is-row (upper t (s .row)) (z .1); below = h (z .0) .row }
+
+  at-entry-rows : (e z : ℕ) → IsRow t z → atEntry t e z .sound ≡ true → SideRows t (atEntry t e z)
+  unfolding atEntry
+  at-entry-rows e z h = go (eqb e none)
+    where
+      here : Side
+      here = record { row = z; below = z; sound = true }
+
+      entry : Side
+      entry = record { row = e; below = e; sound = isRow t e }
+
+      go : (b : Bool) → pick b here entry .sound ≡ true → SideRows t (pick b here entry)
+      go true i = record { row = h; below = h }
+      go false i = record { row = is-row e i; below = is-row e i }
+
+  pub side-rows : (e d o z : ℕ) → IsRow t z → sideFrom t e d o z .sound ≡ true → SideRows t (sideFrom t e d o z)
+  unfolding sideFrom pastSpan pastReach pastEntry
+  side-rows e d o z h = climb-rows _ _ (climb-rows _ _ (climb-rows _ _ (at-entry-rows e z h)))
+
+  path-row-row : (s : Side) → SideRows t s → isOnRow t s ≡ true → IsRow t (pathRowOf t s)
+  unfolding isOnRow pathRow
+  path-row-row s h = go (eqb (s .below) (s .row)) (isApex (parent t) (path t) (s .below))
+    where
+      go : (b a : Bool) → b || isRow t (parent t (s .below)) ≡ true → IsRow t (pick (b || not a) (s .below) (parent t (s .below)))
+      go true a e = h .below
+      go false true e = is-row (parent t (s .below)) e
+      go false false e = h .below
+
+  pick-row : (b : Bool) {u v : ℕ} → IsRow t u → IsRow t v → IsRow t (pick b u v)
+  pick-row true h k = h
+  pick-row false h k = k
+
+  pub join-row : (c k : Side) → (c .sound ≡ true → SideRows t c) → (k .sound ≡ true → SideRows t k) → join t c k .sound ≡ true → IsRow t (join t c k .nca)
+  unfolding join forked meeting higher
+  join-row c k f g e =
+      let named = both _ _ e .0 in
+      let all = both _ _ named .0 in
+      let right = both _ _ all in
+      let left = both _ _ (right .0) in
+      let sides = both (c .sound) (k .sound) (left .0) in
+      pick-row (leb (depth t (pathRowOf t c)) (depth t (pathRowOf t k)))
+      (path-row-row c (f (sides .0)) (left .1)) (path-row-row k (g (sides .1)) (right .1))
+
+  pub stored-row : (m n x y : ℕ) → IsRow t x → IsRow t y → storedFrom t m n x y .sound ≡ true → IsRow t (storedFrom t m n x y .nca)
+  unfolding storedFrom
+  stored-row m n x y h k = go (eqb x y) (eqb m n) _ (join-row _ _ (side-rows _ _ _ x h) (side-rows _ _ _ y k))
+    where
+      go : (b d : Bool) (f : Fork) → (f .sound ≡ true → IsRow t (f .nca))
+          → pick b (alone x) (pick d lost f) .sound ≡ true → IsRow t (pick b (alone x) (pick d lost f) .nca)
+      go true d f j e = h
+      go false true f j e = let z : _≡_ {A = ℕ} 0 1 = cc in absurd (omega arith)
+      go false false f j e = j e
+
+  pub plain-row : (x y : ℕ) → Asked t x y → plainAnswer t x y .sound ≡ true → IsRow t (plainAnswer t x y .nca)
+  unfolding plainAnswer plainFrom forked plainNca
+  plain-row x y h e =
+      let sounds = both _ _ (both _ _ (both _ _ e .0) .0) in
+      let first = both _ _ (sounds .0) in
+      let xr = storedAnswer t x (t .root) in
+      pick-row (eqb (xr .nca) (storedAnswer t y (t .root) .nca)) (stored-row _ _ x y (h .left) (h .right) (first .0))
+      (pick-row (eqb (storedAnswer t x y .nca) (xr .nca)) (stored-row _ _ y (t .root) (h .right) (h .root) (sounds .1))
+      (stored-row _ _ x (t .root) (h .left) (h .root) (first .1)))

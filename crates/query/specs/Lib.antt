@@ -1,0 +1,15 @@
+pub mod Reading
+pub mod ReadingLaws
+pub mod CompressedStep
+pub mod StoredAnswer
+pub mod StoredAnswerLaws
+pub mod PlainAnswer
+pub mod AnswerRows
+pub mod Outcome
+pub mod Question
+pub mod LevelLaws
+pub mod QuestionLaws
+pub mod Agreement
+pub mod FewRows
+pub mod FewRowsLaws
+pub mod Itself
