@@ -1,10 +1,10 @@
 -- The test of count and root says that they may be a table's.
-use mathlib.Core.Path.{_≡_, sym}
+use mathlib.Core.Path.{_≡_}
 use mathlib.Core.Bool.{Bool, true, false}
-use Prim.Native.Nat.{ℕ, _≤_, _<_}
+use Prim.Native.Nat.{ℕ, _<_}
 use native.Mathlib.Omega.{arith}
 use lib.Dec.{eqb, ltb}
-use Rattle.laws.specs.Test.{Says, holds, fails, says-map, says-and, says-leb, says-ltb, says-eqb, says-true, says-false, pick}
+use Rattle.laws.specs.Test.{Says, holds, fails, says-map, says-and, says-leb, says-ltb, says-eqb, pick}
 use Rattle.tree_laws.specs.Ancestor.{none}
 use Rattle.rows.specs.declared.state.State.{State}
 use Rattle.rows.specs.State.{Standing, isStanding}

@@ -35,7 +35,7 @@ pub fn is_sound(row: Row, count: u16) -> bool
     let next = is_link(row.next, count);
     let upper = is_link(row.upper, count);
     let path = is_link(row.path, count);
-    let end = Span::new(row.start, row.set_size).fits();
+    let end = Span::new(row.start, row.set_size).within_limit();
     let level = is_level(row.level);
     let sizes = (row.size <= count) & (row.set_size <= count);
     let numbers = end & (row.next_free <= Span::LIMIT);

@@ -1,5 +1,4 @@
 -- The test of an ancestor entry: three times σ^4 below (10/7)^i.
-use mathlib.Core.Path.{_≡_}
 use Prim.Native.Nat.{ℕ, _*_, _^_, _≤_, _<_}
 use lib.Dec.{ltb}
 use Rattle.laws.specs.Test.{Says, says-ltb, says-map}

@@ -1,8 +1,8 @@
 // The span of a row: its numbers p, q and end, the place of its next child, and the constants that belong to it.
 ghost use mathlib.Core.Path.{_≡_};
-ghost use Prim.Native.Nat.{ℕ, _+_, _*_, _<_, _≤_};
+ghost use Prim.Native.Nat.{_+_, _*_, _<_};
 ghost use Rattle.laws.specs.Fourth.{fourth};
-ghost use Rattle.span.specs.Numbers.{pOf, qOf, endOf, reachOf, fits, capped, outgrown, spanOf, placed};
+ghost use Rattle.span.specs.Numbers.{pOf, qOf, endOf, reachOf, withinLimit, capped, outgrown, spanOf, placed};
 
 mod powers;
 
@@ -78,8 +78,8 @@ impl Span {
     }
 
     // All numbers of the span are within the limit.
-    pub fn fits(self) -> bool
-        ensures { λ r. ⌜ r ≡ fits (self .start) (self .«set_size») ⌝ }
+    pub fn within_limit(self) -> bool
+        ensures { λ r. ⌜ r ≡ withinLimit (self .start) (self .«set_size») ⌝ }
     {
         self.end() <= Self::LIMIT
     }

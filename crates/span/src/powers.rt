@@ -1,6 +1,7 @@
 // The powers of the span's ratio in whole numbers, and the rank of a distance among them.
 ghost use mathlib.Core.Path.{_≡_};
-ghost use Prim.Native.Nat.{ℕ, _+_, _*_, _^_, _<_, _≤_};
+ghost use lib.Dec.{leb};
+ghost use Rattle.laws.specs.Test.{bit};
 ghost use Rattle.span.specs.Power.{powerAt, Powers};
 ghost use Rattle.span.specs.Rank.{rankOf};
 use super::Span;
@@ -283,6 +284,13 @@ const STEPS: u32 = 995;
 
 const OF: u32 = 512;
 
+// 1 where the distance reaches a number, else 0.
+fn reached(distance: u64, number: u64) -> usize
+    ensures { λ r. ⌜ r ≡ bit (leb number distance) ⌝ }
+{
+    if number <= distance { 1 } else { 0 }
+}
+
 // The greatest index whose power is at or below the distance, in two comparisons from the highest bit that is set.
 pub fn rank(distance: u64) -> usize
     ensures { λ r. ⌜ r ≡ rankOf distance ⌝ }
@@ -292,11 +300,5 @@ pub fn rank(distance: u64) -> usize
     }
     let top = 63 - u64::leading_zeros(distance);
     let low = (top * STEPS / OF) as usize;
-    if distance < power(low + 1) {
-        return low;
-    }
-    if distance < power(low + 2) {
-        return low + 1;
-    }
-    low + 2
+    low + reached(distance, power(low + 1)) + reached(distance, power(low + 2))
 }

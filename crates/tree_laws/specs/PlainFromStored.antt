@@ -7,9 +7,9 @@ use native.Mathlib.Decide.{ℕ-discrete}
 use lib.Dec.{eqb}
 use Rattle.laws.specs.Test.{says-true, says-false, says-eqb, pick}
 use Rattle.tree_laws.specs.Ancestor.{none, Anc, here, there, Forest}
-use Rattle.tree_laws.specs.AncestorLaws.{trans, cases, linear, parent-over, row-some, anc-in, no-loop, antisym}
+use Rattle.tree_laws.specs.AncestorLaws.{trans, cases, parent-over, row-some, anc-in, no-loop}
 use Rattle.tree_laws.specs.Nca.{Kindred, Nca, Branch, itself, child, Characteristic}
-use Rattle.tree_laws.specs.NcaLaws.{nca-kindred, anc-kindred, nca-anc, nca-unique, characteristic-swap}
+use Rattle.tree_laws.specs.NcaLaws.{Median, lowest-xy, lowest-xz, lowest-yz, median, nca-kindred, anc-kindred, nca-anc, nca-unique, characteristic-swap}
 use Rattle.tree_laws.specs.Reroot.{PlainParent, root, turned, kept, plainParent, OnWay}
 use Rattle.tree_laws.specs.RerootLaws.{plain-is, plain-on, on-plain}
 
@@ -31,35 +31,7 @@ plainStep parent r x a w = pick (eqb x r) none (pick (eqb a x) w (parent x))
 
 -- Laws
 
--- of the three stored answers two are equal, and the third is at or below them
-pub data Median (parent : ℕ → ℕ) (a b c : ℕ) : Type 0 where
-  lowest-xy : b ≡ c → Anc parent b a → Median parent a b c
-  lowest-yr : a ≡ b → b ≢ c → Anc parent b c → Median parent a b c
-  lowest-xr : a ≡ c → b ≢ c → Anc parent c b → Median parent a b c
-
 module _ {parent rank : ℕ → ℕ} {n r : ℕ} (t : Forest parent rank n) (l : r < n) where
-  module _ {x y a b c : ℕ} (i : x < n) (j : y < n) (xy : Nca parent x y a) (xr : Nca parent x r b) (yr : Nca parent y r c) where
-    pub median : Median parent a b c
-    median = elim (ℕ-discrete b c) [
-      | yes e ↦ lowest-xy e (xy .deepest b (xr .left) (rw e (yr .left)))
-      | no d ↦ elim (linear (xr .right) (yr .right)) [
-        | inl p ↦ lowest-yr (antisym t (anc-in t i (xr .left)) (over-b p d) (xy .deepest b (xr .left) (trans p (yr .left)))) d p
-        | inr p ↦ lowest-xr (antisym t (anc-in t j (yr .left)) (over-c p d) (xy .deepest c (trans p (xr .left)) (yr .left))) d p
-      ]
-    ]
-      where
-        over-b : Anc parent b c → b ≢ c → Anc parent a b
-        over-b p d = elim (linear (xy .right) (yr .left)) [
-          | inl q ↦ xr .deepest a (xy .left) (trans q (yr .right))
-          | inr q ↦ absurd (d (antisym t (anc-in t j (yr .left)) p (xr .deepest c (trans q (xy .left)) (yr .right))))
-        ]
-
-        over-c : Anc parent c b → b ≢ c → Anc parent a c
-        over-c p d = elim (linear (xy .left) (xr .left)) [
-          | inl q ↦ yr .deepest a (xy .right) (trans q (xr .right))
-          | inr q ↦ absurd (d (sym (antisym t (anc-in t i (xr .left)) p (yr .deepest b (trans q (xy .right)) (xr .right)))))
-        ]
-
   -- a stored branch that is not over r is a plain branch
   branch-kept : {a x w : ℕ} → x < n → Kindred parent x r → Branch parent a x w → ((z : ℕ) → Anc parent z x → Anc parent z r → Anc parent z a)
       → Branch (plainParent parent rank r) a x w
@@ -81,7 +53,7 @@ module _ {parent rank : ℕ → ℕ} {n r : ℕ} (t : Forest parent rank n) (l :
   ]
 
   module _ {x y a b c : ℕ} (i : x < n) (j : y < n) (xr : Nca parent x r b) (yr : Nca parent y r c) where
-    -- a row between x and y and r is the plain nearest common ancestor
+    -- a row on both ways to r, over x or y and not above a, is the plain nearest common ancestor
     plain-nca : (xy : Nca parent x y a) {m : ℕ} → m < n → Kindred parent m r → OnWay parent r x m → OnWay parent r y m → Anc parent a m
         → Anc parent m x ⊎ Anc parent m y → Nca (plainParent parent rank r) x y m
     plain-nca xy {m} k o p q u s = record {
@@ -137,13 +109,13 @@ module _ {parent rank : ℕ → ℕ} {n r : ℕ} (t : Forest parent rank n) (l :
       → Characteristic parent x y a u v → Characteristic parent x r b p p′ → Characteristic parent y r c q q′
       → Characteristic (plainParent parent rank r) x y (plainNca a b c) (plainToX parent a b c u p) (plainToY parent a b c v q)
   unfolding plainNca plainToX plainToY
-  plain-characteristic {x} {y} {a} {b} {c} {u} {v} {p} {p′} {q} {q′} i j xy xr yr = go (median i j (xy .nca) (xr .nca) (yr .nca))
+  plain-characteristic {x} {y} {a} {b} {c} {u} {v} {p} {p′} {q} {q′} i j xy xr yr = go (median t i j (xy .nca) (xr .nca) (yr .nca))
     where
       go : Median parent a b c → Characteristic (plainParent parent rank r) x y
           (pick (eqb b c) a (pick (eqb a b) c b)) (pick (eqb b c) u (pick (eqb a b) (parent c) p)) (pick (eqb b c) v (pick (eqb a b) q (parent b)))
       go (lowest-xy e o) = rw (says-true (says-eqb b c) e) (plain-same i j xy xr yr e o)
-      go (lowest-yr e d o) = rw (says-false (says-eqb b c) d, says-true (says-eqb a b) e) (plain-lower i j xy xr yr e d o)
-      go (lowest-xr e d o) = rw (says-false (says-eqb b c) d, says-false (says-eqb a b) (λ z. d (sym z ∙ e)))
+      go (lowest-yz e d o) = rw (says-false (says-eqb b c) d, says-true (says-eqb a b) e) (plain-lower i j xy xr yr e d o)
+      go (lowest-xz e d o) = rw (says-false (says-eqb b c) d, says-false (says-eqb a b) (λ z. d (sym z ∙ e)))
           (characteristic-swap (plain-lower j i (characteristic-swap xy) yr xr e (λ z. d (sym z)) o))
 
   -- one step in the plain tree from one stored answer

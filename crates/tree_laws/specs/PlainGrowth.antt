@@ -1,50 +1,27 @@
 -- A row joins the stored tree, under v. In the plain tree it is a leaf under v, or, where v is the root of the plain tree, it may be the new root.
 use mathlib.Core.Path.{_≡_, refl, sym, _∙_}
-use mathlib.Core.Logic.{_⊎_, inl, inr, _≢_}
+use mathlib.Core.Logic.{inl, inr, _≢_}
 use Prim.Native.Nat.{ℕ, _≤_, _<_}
 use native.Mathlib.Omega.{arith}
-use Rattle.tree_laws.specs.Ancestor.{none, Anc, here, there, Forest}
-use Rattle.tree_laws.specs.AncestorLaws.{cases, row-some, anc-in, anc-copy, anc-back}
+use Rattle.tree_laws.specs.Ancestor.{none, Anc, here, Forest}
+use Rattle.tree_laws.specs.AncestorLaws.{row-some, anc-in}
+use Rattle.tree_laws.specs.Join.{Joins}
+use Rattle.tree_laws.specs.JoinLaws.{anc-kept, anc-old, new-not-over, anc-new, new-anc}
 use Rattle.tree_laws.specs.Reroot.{PlainParent, root, turned, kept, plainParent}
 use Rattle.tree_laws.specs.RerootLaws.{plain-parent, plain-is}
 
--- z is a new row under v, and the rows below n keep their parents
-pub record Joins (parent parent′ : ℕ → ℕ) (n z v : ℕ) : Type 0 where
-  pub same : (x : ℕ) → x < n → parent′ x ≡ parent x
-  pub fresh : n ≤ z
-  pub some : z ≢ none
-  pub under : parent′ z ≡ v
-
 module _ {parent parent′ rank : ℕ → ℕ} {n z v : ℕ} (t : Forest parent rank n) (j : Joins parent parent′ n z v) where
-  -- Ancestors
-
-  pub anc-kept : {a x : ℕ} → x < n → Anc parent a x → Anc parent′ a x
-  anc-kept i = anc-copy (λ b p. j .same b (anc-in t i p))
-
-  pub anc-old : {a x : ℕ} → x < n → Anc parent′ a x → Anc parent a x
-  anc-old i = anc-back (λ b p. j .same b (anc-in t i p))
-
-  -- the new row is over no old one
-  pub new-not-over : {x : ℕ} → x < n → ¬ Anc parent′ z x
-  new-not-over i p = omega (arith, anc-in t i (anc-old i p), j .fresh)
-
-  pub anc-new : {a : ℕ} → v < n → Anc parent a v → Anc parent′ a z
-  anc-new {a} i p = there {a = a} (row-some t i (j .under)) (rw (j .under) (anc-kept i p))
-
-  pub new-anc : {a : ℕ} → v < n → Anc parent′ a z → (a ≡ z) ⊎ Anc parent a v
-  new-anc i p = elim (cases p) [ inl e ↦ inl e | inr s ↦ inr (anc-old i (rw (j .under) at (s .1))) ]
-
   -- A leaf: the root of the plain tree stays
 
   pub leaf-same : {r x y : ℕ} → r < n → x < n → PlainParent parent r x y → PlainParent parent′ r x y
   leaf-same l i root = root
   leaf-same {y = y} l i (turned h e p) =
       let o : parent′ y ≡ parent y = j .same y (anc-in t l p) in
-      turned (λ f. h (sym o ∙ f)) (o ∙ e) (anc-kept l p)
-  leaf-same {r} {x} l i (kept d) = rw (← j .same x i) (kept (λ p. d (anc-old l p)))
+      turned (λ f. h (sym o ∙ f)) (o ∙ e) (anc-kept t j l p)
+  leaf-same {r} {x} l i (kept d) = rw (← j .same x i) (kept (λ p. d (anc-old t j l p)))
 
   pub leaf-new : {r : ℕ} → r < n → PlainParent parent′ r z v
-  leaf-new l = rw (← j .under) (kept (new-not-over l))
+  leaf-new l = rw (← j .under) (kept (new-not-over t j l))
 
 module _ {parent parent′ rank : ℕ → ℕ} {n z r : ℕ} (t : Forest parent rank n) (j : Joins parent parent′ n z r) (l : r < n) where
   -- A new root: it is the plain parent of the old one

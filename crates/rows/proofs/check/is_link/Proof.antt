@@ -1,3 +1,4 @@
+-- `is_link` is the test of a link.
 use mathlib.Core.Path.{sym}
 use mathlib.Core.Logic.{inl}
 use borrow.Author.Tests.{ne-eqb}
@@ -6,14 +7,10 @@ use Rattle.tree_laws.specs.Ancestor.{none}
 use Rattle.rows.specs.SoundLaws.{says-link}
 use Rattle.rows.proofs.check.is_link.Statement.{statement}
 use Rattle.rows.proofs.check.is_link.Tie as tie
-use Rattle.rows.proofs.check.is_link.Reads as reads
-use Rattle.rows.proofs.check.is_link.Lts as lts
 
--- src/check.rt:12:9
 returns : tie.Need-returns
 returns c = sym (says-true (says-link (c .before .args .count) (c .before .args .x)) (inl (c .if1 .taken)))
 
--- src/check.rt:8:1
 returns-2 : tie.Need-returns-2
 returns-2 c = rw (ne-eqb (c .before .args .x) none (c .if1 .left))
 

@@ -1,3 +1,4 @@
+-- `row_at` reads the row of the layout.
 use borrow.Author.Needs.{needs}
 use mathlib.Core.Path.{_≡_}
 use mathlib.Core.List.{List}
@@ -11,8 +12,6 @@ use Rattle.rows.specs.declared.row.Row.{Row}
 use Rattle.rows.specs.Row.{rowOf, levelAt}
 use Rattle.rows.proofs.row.row_at.Statement.{statement}
 use Rattle.rows.proofs.row.row_at.Tie as tie
-use Rattle.rows.proofs.row.row_at.Reads as reads
-use Rattle.rows.proofs.row.row_at.Lts as lts
 
 -- the row that the code makes, its first places written without a 0 added
 row-read : (f m : List ℕ) (l : List ℤ) (x : ℕ) (z : ℤ) → z ≡ levelAt l x → _≡_ {A = Row}
@@ -34,159 +33,120 @@ row-read : (f m : List ℕ) (l : List ℤ) (x : ℕ) (z : ℤ) → z ≡ levelAt
     (rowOf f m l x)
 row-read f m l x z e = rw (e, add-zero (x * 10), add-zero (x * 2))
 
--- src/row.rt:62:13
 mul-b : tie.Need-mul-b
 mul-b c = search needs
 
--- src/row.rt:63:13
 mul-n : tie.Need-mul-n
 mul-n c = search needs
 
--- src/row.rt:65:17
 mul-t8 : tie.Need-mul-t8
 mul-t8 c = search needs
 
--- src/row.rt:65:17
 shared-slice-read-t10 : tie.Need-shared-slice-read-t10
 shared-slice-read-t10 c = search needs
 
--- src/row.rt:66:23
 add-t11 : tie.Need-add-t11
 add-t11 c = search needs
 
--- src/row.rt:66:16
 mul-t12 : tie.Need-mul-t12
 mul-t12 c = search needs
 
--- src/row.rt:66:16
 shared-slice-read-t14 : tie.Need-shared-slice-read-t14
 shared-slice-read-t14 c = search needs
 
--- src/row.rt:67:22
 add-t15 : tie.Need-add-t15
 add-t15 c = search needs
 
--- src/row.rt:67:15
 mul-t16 : tie.Need-mul-t16
 mul-t16 c = search needs
 
--- src/row.rt:67:15
 shared-slice-read-t18 : tie.Need-shared-slice-read-t18
 shared-slice-read-t18 c = search needs
 
--- src/row.rt:68:22
 add-t19 : tie.Need-add-t19
 add-t19 c = search needs
 
--- src/row.rt:68:15
 mul-t20 : tie.Need-mul-t20
 mul-t20 c = search needs
 
--- src/row.rt:68:15
 shared-slice-read-t22 : tie.Need-shared-slice-read-t22
 shared-slice-read-t22 c = search needs
 
--- src/row.rt:69:23
 add-t23 : tie.Need-add-t23
 add-t23 c = search needs
 
--- src/row.rt:69:16
 mul-t24 : tie.Need-mul-t24
 mul-t24 c = search needs
 
--- src/row.rt:69:16
 shared-slice-read-t26 : tie.Need-shared-slice-read-t26
 shared-slice-read-t26 c = search needs
 
--- src/row.rt:70:22
 add-t27 : tie.Need-add-t27
 add-t27 c = search needs
 
--- src/row.rt:70:15
 mul-t28 : tie.Need-mul-t28
 mul-t28 c = search needs
 
--- src/row.rt:70:15
 shared-slice-read-t30 : tie.Need-shared-slice-read-t30
 shared-slice-read-t30 c = search needs
 
--- src/row.rt:71:22
 add-t31 : tie.Need-add-t31
 add-t31 c = search needs
 
--- src/row.rt:71:15
 mul-t32 : tie.Need-mul-t32
 mul-t32 c = search needs
 
--- src/row.rt:71:15
 shared-slice-read-t34 : tie.Need-shared-slice-read-t34
 shared-slice-read-t34 c = search needs
 
--- src/row.rt:72:26
 add-t35 : tie.Need-add-t35
 add-t35 c = search needs
 
--- src/row.rt:72:19
 mul-t36 : tie.Need-mul-t36
 mul-t36 c = search needs
 
--- src/row.rt:72:19
 shared-slice-read-t38 : tie.Need-shared-slice-read-t38
 shared-slice-read-t38 c = search needs
 
--- src/row.rt:73:23
 add-t39 : tie.Need-add-t39
 add-t39 c = search needs
 
--- src/row.rt:73:16
 mul-t40 : tie.Need-mul-t40
 mul-t40 c = search needs
 
--- src/row.rt:73:16
 shared-slice-read-t42 : tie.Need-shared-slice-read-t42
 shared-slice-read-t42 c = search needs
 
--- src/row.rt:74:23
 add-t43 : tie.Need-add-t43
 add-t43 c = search needs
 
--- src/row.rt:74:16
 mul-t44 : tie.Need-mul-t44
 mul-t44 c = search needs
 
--- src/row.rt:74:16
 shared-slice-read-t46 : tie.Need-shared-slice-read-t46
 shared-slice-read-t46 c = search needs
 
--- src/row.rt:75:16
 mul-t47 : tie.Need-mul-t47
 mul-t47 c = search needs
 
--- src/row.rt:75:16
 shared-slice-read-t49 : tie.Need-shared-slice-read-t49
 shared-slice-read-t49 c = search needs
 
--- src/row.rt:76:28
 add-t50 : tie.Need-add-t50
 add-t50 c = search needs
 
--- src/row.rt:76:20
 mul-t51 : tie.Need-mul-t51
 mul-t51 c = search needs
 
--- src/row.rt:76:20
 shared-slice-read-t53 : tie.Need-shared-slice-read-t53
 shared-slice-read-t53 c = search needs
 
--- src/row.rt:77:16
 mul-t54 : tie.Need-mul-t54
 mul-t54 c = search needs
 
--- src/row.rt:77:16
 shared-slice-copy-out-t56 : tie.Need-shared-slice-copy-out-t56
 shared-slice-copy-out-t56 c = search needs
 
--- src/row.rt:57:1
 returns : tie.Need-returns
 returns c =
     let s = c .before .before .before .before .before .before .before .before .before .before .before .before .before .args in

@@ -1,0 +1,68 @@
+-- Every number of a numbered table is small (01, "Every number stays at or below 5 × 2^60").
+use mathlib.Core.Bool.{Bool, true, false}
+use Prim.Native.Nat.{ℕ, zero, suc, _≤_, _<_, zero-le}
+use native.Mathlib.Omega.{arith}
+use Rattle.laws.specs.Test.{bit}
+use Rattle.laws.specs.Sum.{countTo}
+use Rattle.laws.specs.Fourth.{fourth, fourth-le}
+use Rattle.tree_laws.specs.Ancestor.{isAncestor}
+use Rattle.tree_laws.specs.AncestorLaws.{anc-in, root-of}
+use Rattle.tree_laws.specs.Size.{size as sizeIn}
+use Rattle.span.specs.Constants.{limit}
+use Rattle.span.specs.NumberLaws.{limit-span}
+use Rattle.rows.specs.Capacity.{capacityLimit}
+use Rattle.rows.specs.Table.{Table, depth, upper, size, setSize, nextFree}
+use Rattle.rows.specs.Spans.{p, q, end}
+use Rattle.numbering.specs.Numbered.{Numbered, compressedTree, root-stored}
+use Rattle.numbering.specs.Step.{distance}
+use Rattle.numbering.specs.Nesting.{anc-enclosed}
+
+-- no number of row x is out of range
+pub record Bounded (t : Table) (x : ℕ) : Type 0 where
+  pub size : size t x ≤ t .count
+  pub setSize : setSize t x ≤ t .count
+  pub p : p t x ≤ limit
+  pub q : q t x ≤ limit
+  pub end : end t x ≤ limit
+  pub nextFree : nextFree t x ≤ limit
+
+count-le : (b : ℕ → Bool) (n : ℕ) → countTo b n ≤ n
+count-le b zero = zero-le
+count-le b (suc n) = omega (arith, count-le b n, bit-le (b n))
+  where
+    bit-le : (c : Bool) → bit c ≤ 1
+    bit-le true = omega arith
+    bit-le false = omega arith
+
+-- at most n rows lie at or below a row
+pub size-le : (up rank : ℕ → ℕ) (n v : ℕ) → sizeIn up rank n v ≤ n
+unfolding sizeIn
+size-le up rank n v = count-le (isAncestor up rank v) n
+
+module _ {t : Table} (r : Numbered t) where
+  sizes-small : (x : ℕ) → x < t .count → (size t x ≤ t .count) × (setSize t x ≤ t .count)
+  sizes-small x l = omega (arith, size-le (upper t) (depth t) (t .count) x, r .compressed .size x l, r .setSize x l .most)
+
+  -- a span lies within that of the root over it, which starts at 0 and is no wider than the limit
+  pub end-small : (x : ℕ) → x < t .count → end t x ≤ limit
+  end-small x l =
+      let o = root-of (compressedTree r) x l in
+      let i : o .root < t .count = anc-in (compressedTree r) l (o .over) in
+      let f : setSize t (o .root) ≤ capacityLimit = omega (arith, sizes-small (o .root) i, r .count) in
+      omega (arith, limit-span, fourth-le f, anc-enclosed r l (o .over), r .rootStart (o .root) i (root-stored r (o .root) i (o .top)))
+
+  pub numbers-small : (x : ℕ) → x < t .count → Bounded t x
+  numbers-small x l =
+      let e = end-small x l in
+      let s = sizes-small x l in
+      record {
+        size = s .0;
+        setSize = s .1;
+        p = omega arith;
+        q = omega arith;
+        end = e;
+        nextFree = omega (arith, r .nested .room x l);
+      }
+
+  pub distance-small : (x y : ℕ) → x < t .count → y < t .count → distance t x y ≤ limit
+  distance-small x y l m = omega (arith, end-small x l, end-small y m)

@@ -1,0 +1,4 @@
+pub mod CompressedExact
+pub mod StoredExact
+pub mod PlainExact
+pub mod QuestionExact

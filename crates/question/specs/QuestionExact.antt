@@ -1,0 +1,135 @@
+-- Demand 2: on a table that passes inspection a question on two nodes below the count is served, and its outcome is exactly the nearest common
+-- ancestor, both branches, both distances and the label, by the naive definition on the plain tree that the table records.
+use mathlib.Core.Path.{_≡_, refl, ap, sym, _∙_}
+use mathlib.Core.Bool.{true}
+use mathlib.Core.Logic.{_≢_}
+use Prim.Native.Nat.{ℕ, _≤_, _<_}
+use native.Mathlib.Decide.{decLt}
+use native.Mathlib.Omega.{arith}
+use lib.IntN.{pos}
+use Rattle.laws.specs.Test.{says-true, says-eqb}
+use Rattle.tree_laws.specs.Ancestor.{here}
+use Rattle.tree_laws.specs.Depth.{arrived}
+use Rattle.tree_laws.specs.DepthLaws.{steps-one, depth-forest}
+use Rattle.tree_laws.specs.Nca.{itself}
+use Rattle.tree_laws.specs.NcaLaws.{characteristic-unique}
+use Rattle.rows.specs.declared.capacity.Fit.the-variants.{Capacity}
+use Rattle.rows.specs.declared.refusal.Refusal.the-variants.{Corrupt}
+use Rattle.rows.specs.declared.state.State.{State}
+use Rattle.rows.specs.Row.{Parts}
+use Rattle.rows.specs.Capacity.{capacityLimit, Fits, capacityOf}
+use Rattle.rows.specs.CapacityLaws.{capacity-fits}
+use Rattle.rows.specs.Table.{Table, tableOf, label}
+use Rattle.rows.specs.PlainTree.{plain}
+use Rattle.rows.specs.Answer.{Answer, Answers}
+use Rattle.rows.specs.Rules.{Rules}
+use Rattle.rows.specs.State.{isStanding}
+use Rattle.rows.specs.StateLaws.{says-standing}
+use Rattle.query.specs.StoredAnswer.{alone, storedFrom, storedAnswer}
+use Rattle.query.specs.PlainAnswer.{plainAnswer}
+use Rattle.query.specs.Outcome.{Outcome, answer, refused}
+use Rattle.query.specs.Question.{isServed, served, question}
+use Rattle.query.specs.QuestionLaws.{question-unknown-x, question-unknown-y, question-served}
+use Rattle.question.specs.CompressedExact.{row-passes}
+use Rattle.question.specs.PlainExact.{plain-tree, plain-exact, distance-exact}
+
+-- the table that lent parts, with their count and root, record
+abbrev pub recorded : Parts → State → Table
+recorded parts state = tableOf parts (state .count) (state .root)
+
+-- the outcome that gives the answer r: its distances are whole numbers, not negative
+abbrev pub given : Answer → Outcome
+given r = answer (r .nca) (r .toX) (r .toY) (pos (r .distanceX)) (pos (r .distanceY)) (r .label)
+
+-- the outcome o gives the answer for x and y on the plain tree and the labels of the table t
+pub record ExactOutcome (t : Table) (x y : ℕ) (o : Outcome) : Type 0 where
+  pub value : Answer
+  pub answers : Answers (plain t) (label t) x y value
+  pub outcome : o ≡ given value
+
+-- Laws
+
+module _ {capacity : ℕ} {t : Table} (r : Rules capacity t) (fits : capacity ≤ capacityLimit) where
+  -- every test of the service passes, and levels give the distances
+  served-exact : (x y : ℕ) → x < t .count → y < t .count → ExactOutcome t x y (served t x y)
+  unfolding served isServed
+  served-exact x y l m =
+      let f = plain-exact r fits x y l m in
+      let u = distance-exact r fits l (f .characteristic .nca .left) in
+      let v = distance-exact r fits m (f .characteristic .nca .right) in
+      record {
+        value = record {
+          nca = plainAnswer t x y .nca;
+          toX = plainAnswer t x y .«to_x»;
+          toY = plainAnswer t x y .«to_y»;
+          distanceX = u .distance;
+          distanceY = v .distance;
+          label = label t (plainAnswer t x y .nca);
+        };
+        answers = record { characteristic = f .characteristic; distanceX = u .steps; distanceY = v .steps; label = refl };
+        outcome = rw (
+          row-passes r fits x l,
+          row-passes r fits y m,
+          row-passes r fits (t .root) (r .one .root (omega arith)),
+          f .sound,
+          u .levels,
+          v .levels,
+        );
+      }
+
+  -- two nodes have one answer
+  pub answers-one : {x y : ℕ} {a b : Answer} → x < t .count → y < t .count → Answers (plain t) (label t) x y a → Answers (plain t) (label t) x y b → a ≡ b
+  answers-one {x} {y} {a} {b} l m f g =
+      let tree = plain-tree r fits l in
+      let e = characteristic-unique (depth-forest tree) l m (f .characteristic) (g .characteristic) in
+      let i : a .distanceX ≡ b .distanceX = steps-one tree l (rw (e .nca) at (f .distanceX)) (g .distanceX) in
+      let j : a .distanceY ≡ b .distanceY = steps-one tree m (rw (e .nca) at (f .distanceY)) (g .distanceY) in
+      let k : a .label ≡ b .label = cc in
+      rw (e .nca, e .toX, e .toY, i, j, k)
+
+-- parts that fit a capacity tell it
+fits-told : {c : ℕ} {parts : Parts} → Fits c parts → capacityOf parts ≡ Capacity c
+fits-told {c} {parts} f = sym (capacity-fits parts (rw (f .levels) f)) ∙ ap Capacity (f .levels)
+
+-- count and root of a table that passes inspection stand
+rules-standing : {c : ℕ} (parts : Parts) (state : State) → Rules c (recorded parts state) → isStanding c state ≡ true
+rules-standing {c} parts state r = says-true (says-standing c state) record { count = r .one .count; noRoot = r .one .noRoot; root = r .one .root }
+
+-- The theorem
+
+pub question-exact : {c : ℕ} (parts : Parts) (state : State) (x y : ℕ) → Fits c parts → Rules c (recorded parts state) → x < state .count → y < state .count
+    → ExactOutcome (recorded parts state) x y (question parts state x y)
+question-exact parts state x y f r l m =
+    rw (← question-served parts state x y (fits-told f) l m (rules-standing parts state r)) (served-exact r (f .most) x y l m)
+
+-- What follows from it
+
+module _ {c : ℕ} (parts : Parts) (state : State) (f : Fits c parts) (r : Rules c (recorded parts state)) where
+  -- whatever is the answer on the plain tree is the outcome
+  pub question-answer : {x y : ℕ} {a : Answer} → x < state .count → y < state .count
+      → Answers (plain (recorded parts state)) (label (recorded parts state)) x y a → question parts state x y ≡ given a
+  question-answer {x} {y} l m h = let e = question-exact parts state x y f r l m in e .outcome ∙ ap given (answers-one r (f .most) l m (e .answers) h)
+
+  -- a question on a node with itself gives it three times, at distances 0
+  pub question-itself : (x : ℕ) → x < state .count → question parts state x x ≡ answer x x x (pos 0) (pos 0) (label (recorded parts state) x)
+  question-itself x l = question-answer {a = record { nca = x; toX = x; toY = x; distanceX = 0; distanceY = 0; label = _ }} l l record {
+    characteristic = record { nca = record { left = here; right = here; deepest = λ b s _. s }; towardX = itself refl; towardY = itself refl };
+    distanceX = arrived;
+    distanceY = arrived;
+    label = refl;
+  }
+
+  -- no question gives refusal 4, on whatever nodes
+  pub question-not-corrupt : (x y : ℕ) → question parts state x y ≢ refused Corrupt
+  question-not-corrupt x y e = elim (decLt x (state .count)) [
+    | no i ↦ let u = question-unknown-x parts state x y (fits-told f) (omega arith) in let z : _≡_ {A = ℕ} 0 1 = cc in omega arith
+    | yes l ↦ elim (decLt y (state .count)) [
+      | no j ↦ let u = question-unknown-y parts state x y (fits-told f) l (omega arith) in let z : _≡_ {A = ℕ} 0 1 = cc in omega arith
+      | yes m ↦ let u = question-exact parts state x y f r l m .outcome in let z : _≡_ {A = ℕ} 0 1 = cc in omega arith
+    ]
+  ]
+
+-- on every table the stored answer of a node with itself takes no step
+pub stored-itself : (t : Table) (x : ℕ) → storedAnswer t x x ≡ alone x
+unfolding storedFrom
+stored-itself t x = rw (says-true (says-eqb x x) refl)
