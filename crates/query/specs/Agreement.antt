@@ -1,5 +1,5 @@
 -- Two tables that agree in the rows of a step give that step the same outcome.
-use mathlib.Core.Path.{_≡_, refl, sym, ap, _∙_}
+use mathlib.Core.Path.{_≡_, refl, ap, _∙_}
 use mathlib.Core.Bool.{Bool, true, false, _||_, _&&_, not}
 use Prim.Native.Nat.{ℕ, _<_}
 use lib.Dec.{eqb, ltb, leb}
@@ -7,17 +7,15 @@ use Rattle.laws.specs.Test.{pick}
 use Rattle.tree_laws.specs.Ancestor.{none}
 use Rattle.tree_laws.specs.Compressed.{isApex}
 use Rattle.tree_laws.specs.StoredFromCompressed.{pathRow, higher, branchAt}
-use Rattle.tree_laws.specs.PlainFromStored.{plainNca, plainToX, plainToY}
 use Rattle.span.specs.Numbers.{pOf, qOf, reachOf}
 use Rattle.rows.specs.declared.row.Row.{Row}
 use Rattle.rows.specs.Layout.{entryStride}
 use Rattle.rows.specs.Table.{Table, parent, path, depth, upper}
 use Rattle.rows.specs.Spans.{p, reach}
 use Rattle.query.specs.declared.compressed.Side.{Side}
-use Rattle.query.specs.declared.stored.Fork.{Fork}
 use Rattle.query.specs.Reading.{isRow, covers}
 use Rattle.query.specs.CompressedStep.{climb, atEntry, pastEntry, pastReach, pastSpan, sideFrom}
-use Rattle.query.specs.StoredAnswer.{pathRowOf, isOnRow, forked, meeting, branchOf, join}
+use Rattle.query.specs.StoredAnswer.{pathRowOf, isOnRow, meeting, branchOf, join}
 
 -- the tables agree in row v
 pub record Agree (t u : Table) (v : ℕ) : Type 0 where

@@ -8,7 +8,7 @@ use Rattle.rows.specs.declared.state.State.{State}
 use Rattle.rows.specs.Layout.{entryStride}
 use Rattle.rows.specs.Row.{Parts, rowAt, entryAt}
 use Rattle.rows.specs.Capacity.{Fits}
-use Rattle.rows.specs.Table.{Table, tableOf, parent}
+use Rattle.rows.specs.Table.{Table, parent}
 use Rattle.rows.specs.Spans.{p}
 use Rattle.span.specs.Rank.{rankOf}
 use Rattle.query.specs.CompressedStep.{atEntry, pastEntry, pastReach, sideFrom}

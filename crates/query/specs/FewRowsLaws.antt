@@ -2,12 +2,11 @@
 use mathlib.Core.Path.{_≡_, refl, sym, ap, _∙_}
 use mathlib.Core.Bool.{Bool, true, false, _&&_}
 use mathlib.Core.List.{List, [], _∷_, _++_}
-use Prim.Native.Nat.{ℕ, zero, suc, _+_, _-_, _*_, _≤_, _<_}
+use Prim.Native.Nat.{ℕ, suc, _+_, _-_, _*_, _≤_, _<_}
 use native.Mathlib.Decide.{decLt}
-use native.Mathlib.Nat.{zero-lt-suc}
 use native.Mathlib.Omega.{arith}
 use lib.Dec.{eqb, leb}
-use lib.IntN.{ℤ, pos, _-ℤ_}
+use lib.IntN.{pos}
 use lib.ListN.{length, getD, List·getD-eq-default}
 use Rattle.laws.specs.Test.{pick}
 use Rattle.tree_laws.specs.Ancestor.{none}
@@ -35,7 +34,7 @@ use Rattle.query.specs.Outcome.{Outcome, refused}
 use Rattle.query.specs.Question.{valuesOf, isServed, served, asked, question}
 use Rattle.query.specs.QuestionLaws.{tests-asked}
 use Rattle.query.specs.Agreement.{Agree, Both, column, is-row-same, side-both, side-same, meeting-agree, join-same}
-use Rattle.query.specs.FewRows.{SameRow, DrawsOn, sideRows, sidesRows, storedRows, rowsRead, most}
+use Rattle.query.specs.FewRows.{SameRow, DrawsOn, sideRows, storedRows, rowsRead, most}
 
 -- what holds of every number of a list
 abbrev Every : (ℕ → Type 0) → List ℕ → Type 0

@@ -1,11 +1,11 @@
 -- A question on a node with itself gives the node three times and distances 0, on every table that it is answered on (01, "question on an image
 -- with itself gives it three times, bounces 0").
-use mathlib.Core.Path.{_≡_, refl, ap}
-use mathlib.Core.Bool.{Bool, true, false, _&&_}
+use mathlib.Core.Path.{_≡_, refl}
+use mathlib.Core.Bool.{Bool, true, false}
 use mathlib.Core.Logic.{_⊎_, inl, inr}
 use Prim.Native.Nat.{ℕ}
 use lib.Dec.{eqb}
-use lib.IntN.{pos, _-ℤ_, +ℤ-invr}
+use lib.IntN.{pos, +ℤ-invr}
 use borrow.Author.Tests.{eq-eqb}
 use Rattle.laws.specs.Test.{pick}
 use Rattle.tree_laws.specs.PlainFromStored.{plainNca, plainToX, plainToY}
@@ -13,7 +13,7 @@ use Rattle.rows.specs.declared.refusal.Refusal.the-variants.{Corrupt}
 use Rattle.rows.specs.Table.{Table, level, label}
 use Rattle.query.specs.StoredAnswer.{forked, storedFrom, storedAnswer}
 use Rattle.query.specs.PlainAnswer.{plainFrom, plainAnswer}
-use Rattle.query.specs.Outcome.{Outcome, answer, refused}
+use Rattle.query.specs.Outcome.{answer, refused}
 use Rattle.query.specs.Question.{valuesOf, isServed, served}
 
 -- the values are those of the node

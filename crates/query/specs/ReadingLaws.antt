@@ -1,21 +1,18 @@
 -- A row by its tests, and numbers compared with a row's span by parts, where a product may pass 64 bits.
-use mathlib.Core.Path.{_≡_, sym}
-use mathlib.Core.Bool.{Bool, true, false, _&&_}
+use mathlib.Core.Path.{_≡_}
+use mathlib.Core.Bool.{false, _&&_}
 use mathlib.Core.List.{List}
-use mathlib.Core.Logic.{_↔_}
 use Prim.Native.Nat.{ℕ, _+_, _-_, _*_, _/_, _^_, _≤_, _<_}
 use native.Mathlib.Nat.{div-lt-iff-lt-mul}
 use native.Mathlib.Omega.{arith}
 use lib.Dec.{leb, ltb}
 use lib.IntN.{ℤ}
 use borrow.Author.Tests.{lt-leb}
-use Rattle.laws.specs.Test.{Says, says-eq, says-get, says-map, says-ltb, says-leb, says-and}
-use Rattle.laws.specs.Fourth.{fourth}
-use Rattle.span.specs.Constants.{width, limit}
+use Rattle.laws.specs.Test.{Says, says-eq, says-map, says-ltb, says-leb, says-and}
+use Rattle.span.specs.Constants.{width}
 use Rattle.rows.specs.Row.{Within}
-use Rattle.rows.specs.Table.{Table, start, setSize}
+use Rattle.rows.specs.Table.{Table, start}
 use Rattle.rows.specs.Spans.{p, q, end, reach}
-use Rattle.rows.specs.Sound.{Sound, isSound}
 use Rattle.rows.specs.SoundLaws.{says-sound}
 use Rattle.query.specs.Reading.{Holds, IsRow, isRow, covers}
 

@@ -4,12 +4,14 @@ use crate::row::is_row;
 use crate::row::reaches;
 use rows::layout::NONE;
 use rows::layout::UPPER;
-use rows::row::entry;
 use rows::row::field;
 use rows::state::State;
 ghost use mathlib.Core.Path.{_≡_};
-ghost use Rattle.query.specs.Reading.{Holds, asTable};
-ghost use Rattle.query.specs.CompressedStep.{climb, atEntry, pastEntry, pastReach, pastSpan, sideFrom};
+ghost use mathlib.Core.Bool.{_||_};
+ghost use Rattle.laws.specs.Test.{pick};
+ghost use Rattle.rows.specs.Table.{upper};
+ghost use Rattle.query.specs.Reading.{Holds, asTable, isRow};
+ghost use Rattle.query.specs.CompressedStep.{sideFrom};
 
 // A row on the way up from a node and the row below it on that way, the same row at the node itself; sound where every row met is.
 pub struct Side {
@@ -18,61 +20,55 @@ pub struct Side {
     pub sound: bool,
 }
 
-// One row up in the compressed tree, unless the side stays.
-fn climb(
+// One of two rows.
+fn choose(first: bool, a: u16, b: u16) -> u16
+    ensures { λ r. ⌜ r ≡ pick first a b ⌝ }
+{
+    if first {
+        return a;
+    }
+    b
+}
+
+// The row above v in the compressed tree, or v where the side stays.
+fn up(
     fields: &[u16],
     numbers: &[u64],
     levels: &[i32],
     ancestors: &[u16],
     state: State,
     stay: bool,
-    s: Side,
-) -> Side
-    requires { ⌜ Holds (state .count) (now fields) (now numbers) (now levels) ⌝ }
-    ensures { λ r. ⌜ r ≡ climb (asTable (now (fields .entry)) (now (numbers .entry)) (now (levels .entry)) (now (ancestors .entry)) state) stay s ⌝ }
+    v: u16,
+) -> u16
+    ensures { λ r. ⌜ r ≡ pick stay v (upper (asTable (now (fields .entry)) (now (numbers .entry)) (now (levels .entry)) (now (ancestors .entry)) state) v) ⌝ }
 {
     if stay {
-        return s;
+        return v;
     }
-    let v = s.row;
-    let u = field(fields, v, UPPER);
-    let sound = is_row(fields, numbers, levels, ancestors, state, u);
-    Side {
-        row: u,
-        below: v,
-        sound: s.sound & sound,
-    }
+    field(fields, v, UPPER)
 }
 
-// The side at the entry e of z, or at z where that is none.
-fn at_entry(
+// The row v that a side came to is sound; where the side stays it was looked at before.
+fn met(
     fields: &[u16],
     numbers: &[u64],
     levels: &[i32],
     ancestors: &[u16],
     state: State,
-    e: u16,
-    z: u16,
-) -> Side
+    stay: bool,
+    v: u16,
+) -> bool
     requires { ⌜ Holds (state .count) (now fields) (now numbers) (now levels) ⌝ }
-    ensures { λ r. ⌜ r ≡ atEntry (asTable (now (fields .entry)) (now (numbers .entry)) (now (levels .entry)) (now (ancestors .entry)) state) e z ⌝ }
+    ensures { λ r. ⌜ r ≡ stay || isRow (asTable (now (fields .entry)) (now (numbers .entry)) (now (levels .entry)) (now (ancestors .entry)) state) v ⌝ }
 {
-    if e == NONE {
-        return Side {
-            row: z,
-            below: z,
-            sound: true,
-        };
+    if stay {
+        return true;
     }
-    let sound = is_row(fields, numbers, levels, ancestors, state, e);
-    Side {
-        row: e,
-        below: e,
-        sound,
-    }
+    is_row(fields, numbers, levels, ancestors, state, v)
 }
 
 // The compressed step from z: e is its entry at the rank of the distance d, o the other node's number.
+// Rows are looked at once all are known, so that no step waits for a check.
 pub fn side_from(
     fields: &[u16],
     numbers: &[u64],
@@ -87,10 +83,21 @@ pub fn side_from(
     requires { ⌜ Holds (state .count) (now fields) (now numbers) (now levels) ⌝ }
     ensures { λ r. ⌜ r ≡ sideFrom (asTable (now (fields .entry)) (now (numbers .entry)) (now (levels .entry)) (now (ancestors .entry)) state) e d o z ⌝ }
 {
-    let from = at_entry(fields, numbers, levels, ancestors, state, e, z);
-    let first = climb(fields, numbers, levels, ancestors, state, e == NONE, from);
-    let over = reaches(fields, numbers, levels, ancestors, state, first.row, d);
-    let second = climb(fields, numbers, levels, ancestors, state, over, first);
-    let common = covers(fields, numbers, levels, ancestors, state, second.row, o);
-    climb(fields, numbers, levels, ancestors, state, common, second)
+    let none = e == NONE;
+    let from = choose(none, z, e);
+    let first = up(fields, numbers, levels, ancestors, state, none, from);
+    let over = reaches(fields, numbers, levels, ancestors, state, first, d);
+    let second = up(fields, numbers, levels, ancestors, state, over, first);
+    let common = covers(fields, numbers, levels, ancestors, state, second, o);
+    let third = up(fields, numbers, levels, ancestors, state, common, second);
+    let below = choose(common, choose(over, from, first), second);
+    let at_from = met(fields, numbers, levels, ancestors, state, none, from);
+    let at_first = met(fields, numbers, levels, ancestors, state, none, first);
+    let at_second = met(fields, numbers, levels, ancestors, state, over, second);
+    let at_third = met(fields, numbers, levels, ancestors, state, common, third);
+    Side {
+        row: third,
+        below,
+        sound: at_from & at_first & at_second & at_third,
+    }
 }

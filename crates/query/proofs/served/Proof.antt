@@ -1,12 +1,9 @@
 -- `served`: each test in turn, or the plain answer, whose rows are sound.
-use mathlib.Core.Path.{_≡_, sym, ap, _∙_}
-use mathlib.Core.Bool.{Bool, true, false}
+use mathlib.Core.Path.{sym, ap, _∙_}
+use mathlib.Core.Bool.{true, false}
 use borrow.Author.Tests.{not-true, not-false}
-use Rattle.rows.specs.Table.{Table}
 use Rattle.query.specs.declared.stored.Fork.{Fork}
-use Rattle.query.specs.Reading.{asTable}
-use Rattle.query.specs.PlainAnswer.{plainAnswer}
-use Rattle.query.specs.Question.{valuesOf, isServed, served}
+use Rattle.query.specs.Question.{isServed, served}
 use Rattle.query.specs.QuestionLaws.{tests-asked, plain-in-range}
 use borrow.Author.Needs.{needs}
 use Rattle.query.proofs.served.Statement.{statement}

@@ -1,6 +1,4 @@
 -- `p_at`: a sound row's numbers lie within the limit.
-use mathlib.Core.Path.{_≡_}
-use native.Mathlib.Omega.{arith}
 use borrow.Author.Needs.{needs}
 use Rattle.query.specs.ReadingLaws.{p-fits}
 use Rattle.query.proofs.row.p_at.Statement.{statement}

@@ -1,5 +1,4 @@
 -- `reaches`: the quotient of the distance is compared with one part of the reach.
-use mathlib.Core.Path.{_∙_}
 use Rattle.query.specs.ReadingLaws.{reach-parts}
 use borrow.Author.Needs.{needs}
 use Rattle.query.proofs.row.reaches.Statement.{statement}

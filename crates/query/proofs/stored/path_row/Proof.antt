@@ -1,6 +1,5 @@
 -- `path_row`: by the tests of the definition, in its order.
 use borrow.Author.Tests.{eq-eqb, ne-eqb}
-use mathlib.Core.Path.{_≡_, sym, _∙_}
 use Rattle.tree_laws.specs.Ancestor.{none}
 use Rattle.tree_laws.specs.Compressed.{isApex}
 use Rattle.tree_laws.specs.StoredFromCompressed.{pathRow}
