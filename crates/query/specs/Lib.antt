@@ -9,3 +9,7 @@ pub mod Outcome
 pub mod Question
 pub mod LevelLaws
 pub mod QuestionLaws
+pub mod Agreement
+pub mod FewRows
+pub mod FewRowsLaws
+pub mod Itself

@@ -1,0 +1,165 @@
+-- Two tables that agree in the rows of a step give that step the same outcome.
+use mathlib.Core.Path.{_≡_, refl, sym, ap, _∙_}
+use mathlib.Core.Bool.{Bool, true, false, _||_, _&&_, not}
+use Prim.Native.Nat.{ℕ, _<_}
+use lib.Dec.{eqb, ltb, leb}
+use Rattle.laws.specs.Test.{pick}
+use Rattle.tree_laws.specs.Ancestor.{none}
+use Rattle.tree_laws.specs.Compressed.{isApex}
+use Rattle.tree_laws.specs.StoredFromCompressed.{pathRow, higher, branchAt}
+use Rattle.tree_laws.specs.PlainFromStored.{plainNca, plainToX, plainToY}
+use Rattle.span.specs.Numbers.{pOf, qOf, reachOf}
+use Rattle.rows.specs.declared.row.Row.{Row}
+use Rattle.rows.specs.Layout.{entryStride}
+use Rattle.rows.specs.Table.{Table, parent, path, depth, upper}
+use Rattle.rows.specs.Spans.{p, reach}
+use Rattle.query.specs.declared.compressed.Side.{Side}
+use Rattle.query.specs.declared.stored.Fork.{Fork}
+use Rattle.query.specs.Reading.{isRow, covers}
+use Rattle.query.specs.CompressedStep.{climb, atEntry, pastEntry, pastReach, pastSpan, sideFrom}
+use Rattle.query.specs.StoredAnswer.{pathRowOf, isOnRow, forked, meeting, branchOf, join}
+
+-- the tables agree in row v
+pub record Agree (t u : Table) (v : ℕ) : Type 0 where
+  pub row : t .row v ≡ u .row v
+  pub entry : (i : ℕ) → i < entryStride → t .entry v i ≡ u .entry v i
+
+-- so in each column
+pub column : {A : Type 0} {t u : Table} {v : ℕ} (f : Row → A) → Agree t u v → f (t .row v) ≡ f (u .row v)
+column f g = ap f (g .row)
+
+-- they agree in both rows of a side
+pub record Both (t u : Table) (s : Side) : Type 0 where
+  pub row : Agree t u (s .row)
+  pub below : Agree t u (s .below)
+
+module _ {t u : Table} (n : t .count ≡ u .count) where
+  pub is-row-same : {v : ℕ} → Agree t u v → isRow t v ≡ isRow u v
+  unfolding isRow
+  is-row-same g = rw (n, g .row)
+
+  -- the compressed step
+
+  climb-same : (stay : Bool) (s : Side) → Both t u s → Agree t u (climb t stay s .row) → climb t stay s ≡ climb u stay s
+  unfolding climb
+  climb-same true s h g = refl
+  climb-same false s h g = rw (← column (λ r. r .upper) (h .row), is-row-same g)
+
+  climb-both : (stay : Bool) (s : Side) → Both t u s → Agree t u (climb t stay s .row) → Both t u (climb t stay s)
+  unfolding climb
+  climb-both true s h g = h
+  climb-both false s h g = record { row = g; below = h .row }
+
+  at-entry-same : (e z : ℕ) → Agree t u (atEntry t e z .row) → atEntry t e z ≡ atEntry u e z
+  unfolding atEntry
+  at-entry-same e z = go (eqb e none)
+    where
+      here : Side
+      here = record { row = z; below = z; sound = true }
+
+      entry : Table → Side
+      entry t = record { row = e; below = e; sound = isRow t e }
+
+      go : (b : Bool) → Agree t u (pick b here (entry t) .row) → pick b here (entry t) ≡ pick b here (entry u)
+      go true g = refl
+      go false g = rw (is-row-same g)
+
+  at-entry-both : (e z : ℕ) → Agree t u (atEntry t e z .row) → Both t u (atEntry t e z)
+  unfolding atEntry
+  at-entry-both e z = go (eqb e none)
+    where
+      here : Side
+      here = record { row = z; below = z; sound = true }
+
+      entry : Side
+      entry = record { row = e; below = e; sound = isRow t e }
+
+      go : (b : Bool) → Agree t u (pick b here entry .row) → Both t u (pick b here entry)
+      go true g = record { row = g; below = g }
+      go false g = record { row = g; below = g }
+
+  reach-same : {v : ℕ} (d : ℕ) → Agree t u v → ltb d (reach t v) ≡ ltb d (reach u v)
+  reach-same d g = column (λ r. ltb d (reachOf (r .«set_size»))) g
+
+  covers-same : {v : ℕ} (o : ℕ) → Agree t u v → covers t v o ≡ covers u v o
+  unfolding covers
+  covers-same o g = column (λ r. leb (pOf (r .start) (r .«set_size»)) o && ltb o (qOf (r .start) (r .«set_size»))) g
+
+  -- the step of one side, by the rows that it meets
+  module _ (e d o z : ℕ) (g0 : Agree t u (atEntry t e z .row)) (g1 : Agree t u (pastEntry t e z .row))
+      (g2 : Agree t u (pastReach t d (pastEntry t e z) .row)) (g3 : Agree t u (sideFrom t e d o z .row)) where
+    entry-both : Both t u (pastEntry t e z)
+    unfolding pastEntry
+    entry-both = climb-both (eqb e none) (atEntry t e z) (at-entry-both e z g0) g1
+
+    entry-same : pastEntry t e z ≡ pastEntry u e z
+    unfolding pastEntry
+    entry-same = climb-same (eqb e none) (atEntry t e z) (at-entry-both e z g0) g1 ∙ ap (climb u (eqb e none)) (at-entry-same e z g0)
+
+    past-reach-both : Both t u (pastReach t d (pastEntry t e z))
+    unfolding pastReach
+    past-reach-both = climb-both (ltb d (reach t (pastEntry t e z .row))) (pastEntry t e z) entry-both g2
+
+    past-reach-same : pastReach t d (pastEntry t e z) ≡ pastReach u d (pastEntry u e z)
+    unfolding pastReach
+    past-reach-same =
+        climb-same (ltb d (reach t (s .row))) s entry-both g2 ∙ ap (λ b. climb u b s) (reach-same d (entry-both .row)) ∙ ap (pastReach u d) entry-same
+      where
+        s : Side
+        s = pastEntry t e z
+
+    pub side-both : Both t u (sideFrom t e d o z)
+    unfolding sideFrom pastSpan
+    side-both = climb-both (covers t (pastReach t d (pastEntry t e z) .row) o) (pastReach t d (pastEntry t e z)) past-reach-both g3
+
+    pub side-same : sideFrom t e d o z ≡ sideFrom u e d o z
+    unfolding sideFrom pastSpan
+    side-same = climb-same (covers t (s .row) o) s past-reach-both g3 ∙ ap (λ b. climb u b s) (covers-same o (past-reach-both .row))
+        ∙ ap (pastSpan u o) past-reach-same
+      where
+        s : Side
+        s = pastReach t d (pastEntry t e z)
+
+  -- the stored answer
+
+  path-row-same : (s : Side) → Both t u s → Agree t u (parent t (s .below)) → pathRowOf t s ≡ pathRowOf u s
+  unfolding pathRow isApex
+  path-row-same s h g = rw (← column (λ r. r .parent) (h .below), ← column (λ r. r .path) g)
+
+  path-row-agree : (s : Side) → Both t u s → Agree t u (parent t (s .below)) → Agree t u (pathRowOf t s)
+  unfolding pathRow
+  path-row-agree s h g = go (eqb (s .below) (s .row) || not (isApex (parent t) (path t) (s .below)))
+    where
+      go : (b : Bool) → Agree t u (pick b (s .below) (parent t (s .below)))
+      go true = h .below
+      go false = g
+
+  on-row-same : (s : Side) → Both t u s → Agree t u (parent t (s .below)) → isOnRow t s ≡ isOnRow u s
+  unfolding isOnRow
+  on-row-same s h g = rw (← column (λ r. r .parent) (h .below), is-row-same g)
+
+  module _ (c k : Side) (hc : Both t u c) (hk : Both t u k) (gc : Agree t u (parent t (c .below))) (gk : Agree t u (parent t (k .below))) where
+    pub meeting-agree : Agree t u (meeting t c k)
+    unfolding meeting higher
+    meeting-agree = go (leb (depth t (pathRowOf t c)) (depth t (pathRowOf t k)))
+      where
+        go : (b : Bool) → Agree t u (pick b (pathRowOf t c) (pathRowOf t k))
+        go true = path-row-agree c hc gc
+        go false = path-row-agree k hk gk
+
+    meeting-same : meeting t c k ≡ meeting u c k
+    unfolding meeting higher
+    meeting-same = rw (
+      column (λ r. r .depth) (path-row-agree c hc gc),
+      column (λ r. r .depth) (path-row-agree k hk gk),
+      path-row-same c hc gc,
+      path-row-same k hk gk,
+    )
+
+    branch-same : (s : Side) → Both t u s → Agree t u (parent t (s .below)) → branchOf t c k s ≡ branchOf u c k s
+    unfolding branchOf branchAt
+    branch-same s h g = rw (column (λ r. r .path) meeting-agree, meeting-same, path-row-same s h g)
+
+    pub join-same : join t c k ≡ join u c k
+    unfolding join
+    join-same = rw (meeting-same, branch-same c hc gc, branch-same k hk gk, on-row-same c hc gc, on-row-same k hk gk)

@@ -1,0 +1,48 @@
+-- The rows that a question draws on (01, "A question draws on at most 64 rows when some 64 rows or fewer exist such that all tables of that
+-- capacity, filled with anything, that agree in those rows, count and source give the same outcome").
+use mathlib.Core.Path.{_≡_}
+use mathlib.Core.List.{List, [], _∷_, _++_}
+use Prim.Native.Nat.{ℕ, _≤_, _<_}
+use lib.ListN.{length, getD}
+use Rattle.rows.specs.declared.state.State.{State}
+use Rattle.rows.specs.Layout.{entryStride}
+use Rattle.rows.specs.Row.{Parts, rowAt, entryAt}
+use Rattle.rows.specs.Capacity.{Fits}
+use Rattle.rows.specs.Table.{Table, tableOf, parent}
+use Rattle.rows.specs.Spans.{p}
+use Rattle.span.specs.Rank.{rankOf}
+use Rattle.query.specs.CompressedStep.{atEntry, pastEntry, pastReach, sideFrom}
+use Rattle.query.specs.StoredAnswer.{between}
+use Rattle.query.specs.Question.{question}
+
+-- the parts agree in row v
+pub record SameRow (a b : Parts) (v : ℕ) : Type 0 where
+  pub row : rowAt a v ≡ rowAt b v
+  pub entry : (i : ℕ) → i < entryStride → entryAt (a .ancestors) v i ≡ entryAt (b .ancestors) v i
+
+-- at most k rows decide the outcome of a question in a table of capacity c
+pub record DrawsOn (k c : ℕ) (a : Parts) (s : State) (x y : ℕ) : Type 0 where
+  pub rows : List ℕ
+  pub few : length rows ≤ k
+  pub decide : (b : Parts) → Fits c b → ((i : ℕ) → i < length rows → getD rows i 0 < c → SameRow a b (getD rows i 0))
+      → question b s x y ≡ question a s x y
+
+-- the rows of one side: the entry's, those of the three steps up, and the parent of the branch
+abbrev pub sideRows : Table → ℕ → ℕ → ℕ → ℕ → List ℕ
+sideRows t e d o z =
+    atEntry t e z .row ∷ pastEntry t e z .row ∷ pastReach t d (pastEntry t e z) .row ∷ sideFrom t e d o z .row ∷ parent t (sideFrom t e d o z .below) ∷ []
+
+-- the rows of one stored answer, whose numbers are d apart
+abbrev pub sidesRows : Table → ℕ → ℕ → ℕ → List ℕ
+sidesRows t d x y = sideRows t (t .entry x (rankOf d)) d (p t y) x ++ sideRows t (t .entry y (rankOf d)) d (p t x) y
+
+abbrev pub storedRows : Table → ℕ → ℕ → List ℕ
+storedRows t x y = sidesRows t (between (p t x) (p t y)) x y
+
+-- the rows of a question: those of x, y and the root, and of three stored answers
+abbrev pub rowsRead : Table → ℕ → ℕ → List ℕ
+rowsRead t x y = x ∷ y ∷ t .root ∷ (storedRows t x y ++ (storedRows t x (t .root) ++ storedRows t y (t .root)))
+
+-- so many
+abbrev pub most : ℕ
+most = 33

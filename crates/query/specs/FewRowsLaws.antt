@@ -1,0 +1,280 @@
+-- A question draws on few rows of any table.
+use mathlib.Core.Path.{_≡_, refl, sym, ap, _∙_}
+use mathlib.Core.Bool.{Bool, true, false, _&&_}
+use mathlib.Core.List.{List, [], _∷_, _++_}
+use Prim.Native.Nat.{ℕ, zero, suc, _+_, _-_, _*_, _≤_, _<_}
+use native.Mathlib.Decide.{decLt}
+use native.Mathlib.Nat.{zero-lt-suc}
+use native.Mathlib.Omega.{arith}
+use lib.Dec.{eqb, leb}
+use lib.IntN.{ℤ, pos, _-ℤ_}
+use lib.ListN.{length, getD, List·getD-eq-default}
+use Rattle.laws.specs.Test.{pick}
+use Rattle.tree_laws.specs.Ancestor.{none}
+use Rattle.tree_laws.specs.PlainFromStored.{plainNca, plainToX, plainToY}
+use Rattle.span.specs.Constants.{limit}
+use Rattle.span.specs.Numbers.{pOf}
+use Rattle.span.specs.Rank.{rankOf}
+use Rattle.span.specs.RankLaws.{rank-small}
+use Rattle.rows.specs.declared.capacity.Fit.{Fit}
+use Rattle.rows.specs.declared.capacity.Fit.the-variants.{Capacity}
+use Rattle.rows.specs.declared.refusal.Refusal.the-variants.{Corrupt}
+use Rattle.rows.specs.declared.state.State.{State}
+use Rattle.rows.specs.Layout.{entryStride}
+use Rattle.rows.specs.Row.{Parts, rowAt, levelAt, entryAt}
+use Rattle.rows.specs.Capacity.{Fits, capacityOf}
+use Rattle.rows.specs.CapacityLaws.{capacity-fits}
+use Rattle.rows.specs.Table.{Table, tableOf, parent}
+use Rattle.rows.specs.Spans.{p}
+use Rattle.query.specs.declared.stored.Fork.{Fork}
+use Rattle.query.specs.Reading.{IsRow, isRow}
+use Rattle.query.specs.CompressedStep.{sideFrom, compressedSide}
+use Rattle.query.specs.StoredAnswer.{between, join, alone, lost, storedFrom, storedAnswer, forked}
+use Rattle.query.specs.PlainAnswer.{Asked, plainFrom, plainAnswer}
+use Rattle.query.specs.Outcome.{Outcome, refused}
+use Rattle.query.specs.Question.{valuesOf, isServed, served, asked, question}
+use Rattle.query.specs.QuestionLaws.{tests-asked}
+use Rattle.query.specs.Agreement.{Agree, Both, column, is-row-same, side-both, side-same, meeting-agree, join-same}
+use Rattle.query.specs.FewRows.{SameRow, DrawsOn, sideRows, sidesRows, storedRows, rowsRead, most}
+
+-- what holds of every number of a list
+abbrev Every : (ℕ → Type 0) → List ℕ → Type 0
+Every P [] = Unit {0}
+Every P (v ∷ l) = P v × Every P l
+
+every : (P : ℕ → Type 0) (l : List ℕ) → ((i : ℕ) → i < length l → P (getD l i 0)) → Every P l
+every P [] h = tt
+every P (v ∷ l) h = (h 0 (omega arith), every P l (λ i j. h (suc i) (omega arith)))
+
+every-left : (P : ℕ → Type 0) (k l : List ℕ) → Every P (k ++ l) → Every P k
+every-left P [] l h = tt
+every-left P (v ∷ k) l h = (h .0, every-left P k l (h .1))
+
+every-right : (P : ℕ → Type 0) (k l : List ℕ) → Every P (k ++ l) → Every P l
+every-right P [] l h = h
+every-right P (v ∷ k) l h = every-right P k l (h .1)
+
+-- numbers within the limit are no farther apart
+between-le : {a b l : ℕ} → a ≤ l → b ≤ l → between a b ≤ l
+unfolding between
+between-le {a} {b} {l} h k = go (leb a b)
+  where
+    go : (c : Bool) → pick c (b - a) (a - b) ≤ l
+    go true = omega arith
+    go false = omega arith
+
+row-p : {t : Table} {v : ℕ} → IsRow t v → p t v ≤ limit
+row-p h = omega (arith, h .sound .end)
+
+module _ {t u : Table} (n : t .count ≡ u .count) where
+  p-same : {v : ℕ} → Agree t u v → p t v ≡ p u v
+  p-same g = column (λ r. pOf (r .start) (r .«set_size»)) g
+
+  -- one side
+  module _ (d o z : ℕ) (i : rankOf d < entryStride) (g : Agree t u z) (h : Every (Agree t u) (sideRows t (t .entry z (rankOf d)) d o z)) where
+    compressed-both : Both t u (compressedSide t d o z)
+    compressed-both = side-both n (t .entry z (rankOf d)) d o z (h .0) (h .1 .0) (h .1 .1 .0) (h .1 .1 .1 .0)
+
+    compressed-same : compressedSide t d o z ≡ compressedSide u d o z
+    compressed-same = side-same n (t .entry z (rankOf d)) d o z (h .0) (h .1 .0) (h .1 .1 .0) (h .1 .1 .1 .0)
+        ∙ ap (λ e. sideFrom u e d o z) (g .entry (rankOf d) i)
+
+  -- one stored answer
+  module _ (gone : Agree t u none) (x y : ℕ) (hx : IsRow t x) (hy : IsRow t y) (gx : Agree t u x) (gy : Agree t u y) (h : Every (Agree t u) (storedRows t x y)) where
+    apart : ℕ
+    apart = between (p t x) (p t y)
+
+    small : rankOf apart < entryStride
+    unfolding apart
+    small = omega (arith, rank-small (between (p t x) (p t y)) (between-le (row-p hx) (row-p hy)))
+
+    left : Every (Agree t u) (sideRows t (t .entry x (rankOf apart)) apart (p t y) x)
+    unfolding apart
+    left = every-left (Agree t u) (sideRows t (t .entry x (rankOf apart)) apart (p t y) x) (sideRows t (t .entry y (rankOf apart)) apart (p t x) y) h
+
+    right : Every (Agree t u) (sideRows t (t .entry y (rankOf apart)) apart (p t x) y)
+    unfolding apart
+    right = every-right (Agree t u) (sideRows t (t .entry x (rankOf apart)) apart (p t y) x) (sideRows t (t .entry y (rankOf apart)) apart (p t x) y) h
+
+    sides-same : join t (compressedSide t apart (p t y) x) (compressedSide t apart (p t x) y)
+        ≡ join u (compressedSide u apart (p t y) x) (compressedSide u apart (p t x) y)
+    sides-same =
+        join-same n _ _ (compressed-both apart (p t y) x small gx left) (compressed-both apart (p t x) y small gy right) (left .1 .1 .1 .1 .0) (right .1 .1 .1 .1 .0)
+        ∙ ap (λ c. join u c (compressedSide t apart (p t x) y)) (compressed-same apart (p t y) x small gx left)
+        ∙ ap (λ k. join u (compressedSide u apart (p t y) x) k) (compressed-same apart (p t x) y small gy right)
+
+    sides-agree : Agree t u (join t (compressedSide t apart (p t y) x) (compressedSide t apart (p t x) y) .nca)
+    unfolding join forked
+    sides-agree =
+        meeting-agree n _ _ (compressed-both apart (p t y) x small gx left) (compressed-both apart (p t x) y small gy right) (left .1 .1 .1 .1 .0) (right .1 .1 .1 .1 .0)
+
+    stored-same : storedAnswer t x y ≡ storedAnswer u x y
+    unfolding storedFrom apart
+    stored-same =
+        ap (λ f. pick (eqb x y) (alone x) (pick (eqb (p t x) (p t y)) lost f)) sides-same
+        ∙ ap (λ m. storedFrom u m (p t y) x y) (p-same gx)
+        ∙ ap (λ m. storedFrom u (p u x) m x y) (p-same gy)
+
+    stored-agree : Agree t u (storedAnswer t x y .nca)
+    unfolding storedFrom apart
+    stored-agree = go (eqb x y) (eqb (p t x) (p t y)) _ sides-agree
+      where
+        go : (b d : Bool) (f : Fork) → Agree t u (f .nca) → Agree t u (pick b (alone x) (pick d lost f) .nca)
+        go true d f g = gx
+        go false true f g = gone
+        go false false f g = g
+
+  -- the plain answer
+  plain-from-same : (f g h : Fork) → Agree t u (g .nca) → Agree t u (h .nca) → plainFrom t f g h ≡ plainFrom u f g h
+  unfolding plainFrom plainToX plainToY
+  plain-from-same f g h i j = rw (column (λ r. r .parent) i, column (λ r. r .parent) j)
+
+  plain-from-agree : (f g h : Fork) → Agree t u (f .nca) → Agree t u (g .nca) → Agree t u (h .nca) → Agree t u (plainFrom t f g h .nca)
+  unfolding plainFrom plainNca forked
+  plain-from-agree f g h i j k = go (eqb (g .nca) (h .nca)) (eqb (f .nca) (g .nca))
+    where
+      go : (a b : Bool) → Agree t u (pick a (f .nca) (pick b (h .nca) (g .nca)))
+      go true b = i
+      go false true = k
+      go false false = j
+
+  values-same : (x y : ℕ) (f : Fork) → Agree t u x → Agree t u y → Agree t u (f .nca) → valuesOf t x y f ≡ valuesOf u x y f
+  values-same x y f i j k = rw (column (λ r. r .level) i, column (λ r. r .level) j, column (λ r. r .level) k, column (λ r. r .label) k)
+
+  module _ (gone : Agree t u none) (r : t .root ≡ u .root) (x y : ℕ) (h : Every (Agree t u) (rowsRead t x y)) where
+    gx : Agree t u x
+    gx = h .0
+
+    gy : Agree t u y
+    gy = h .1 .0
+
+    gr : Agree t u (t .root)
+    gr = h .1 .1 .0
+
+    xy : Every (Agree t u) (storedRows t x y)
+    xy = every-left (Agree t u) (storedRows t x y) (storedRows t x (t .root) ++ storedRows t y (t .root)) (h .1 .1 .1)
+
+    rest : Every (Agree t u) (storedRows t x (t .root) ++ storedRows t y (t .root))
+    rest = every-right (Agree t u) (storedRows t x y) (storedRows t x (t .root) ++ storedRows t y (t .root)) (h .1 .1 .1)
+
+    xr : Every (Agree t u) (storedRows t x (t .root))
+    xr = every-left (Agree t u) (storedRows t x (t .root)) (storedRows t y (t .root)) rest
+
+    yr : Every (Agree t u) (storedRows t y (t .root))
+    yr = every-right (Agree t u) (storedRows t x (t .root)) (storedRows t y (t .root)) rest
+
+    module _ (k : Asked t x y) where
+      plain-agree : Agree t u (plainAnswer t x y .nca)
+      unfolding plainAnswer
+      plain-agree = plain-from-agree _ _ _
+          (stored-agree gone x y (k .left) (k .right) gx gy xy)
+          (stored-agree gone x (t .root) (k .left) (k .root) gx gr xr)
+          (stored-agree gone y (t .root) (k .right) (k .root) gy gr yr)
+
+      plain-same : plainAnswer t x y ≡ plainAnswer u x y
+      unfolding plainAnswer
+      plain-same =
+          plain-from-same (storedAnswer t x y) (storedAnswer t x (t .root)) (storedAnswer t y (t .root))
+          (stored-agree gone x (t .root) (k .left) (k .root) gx gr xr) (stored-agree gone y (t .root) (k .right) (k .root) gy gr yr)
+          ∙ ap (λ f. plainFrom u f (storedAnswer t x (t .root)) (storedAnswer t y (t .root))) (stored-same gone x y (k .left) (k .right) gx gy xy)
+          ∙ ap (λ f. plainFrom u (storedAnswer u x y) f (storedAnswer t y (t .root))) (stored-same gone x (t .root) (k .left) (k .root) gx gr xr)
+          ∙ ap (λ f. plainFrom u (storedAnswer u x y) (storedAnswer u x (t .root)) f) (stored-same gone y (t .root) (k .right) (k .root) gy gr yr)
+          ∙ ap (λ z. plainFrom u (storedAnswer u x y) (storedAnswer u x z) (storedAnswer u y z)) r
+
+    -- the outcome in a table of this count and root
+    pub served-same : served t x y ≡ served u x y
+    unfolding served isServed
+    served-same = go (isRow t x) (isRow t y) (isRow t (t .root)) refl refl refl
+      where
+        here : Bool → Bool → Bool → Outcome
+        here a b c = pick (a && b && c && plainAnswer t x y .sound) (valuesOf t x y (plainAnswer t x y)) (refused Corrupt)
+
+        other : Bool → Bool → Bool → Outcome
+        other a b c = pick (a && b && c && plainAnswer u x y .sound) (valuesOf u x y (plainAnswer u x y)) (refused Corrupt)
+
+        back : {a b c : Bool} → isRow t x ≡ a → isRow t y ≡ b → isRow t (t .root) ≡ c → other a b c ≡ other (isRow u x) (isRow u y) (isRow u (u .root))
+        back i j k = rw (← i, ← j, ← k, is-row-same n gx, is-row-same n gy, is-row-same n gr, r)
+
+        go : (a b c : Bool) → isRow t x ≡ a → isRow t y ≡ b → isRow t (t .root) ≡ c → here a b c ≡ other (isRow u x) (isRow u y) (isRow u (u .root))
+        go false b c i j k = back i j k
+        go true false c i j k = back i j k
+        go true true false i j k = back i j k
+        go true true true i j k =
+            let q = tests-asked t x y i j k in
+            ap (λ o. pick (plainAnswer t x y .sound) o (refused Corrupt)) (values-same x y (plainAnswer t x y) gx gy (plain-agree q))
+            ∙ ap (λ f. pick (f .sound) (valuesOf u x y f) (refused Corrupt)) (plain-same q)
+            ∙ back i j k
+
+-- past the capacity all parts are alike
+nothing : Parts
+nothing = record { fields = []; numbers = []; levels = []; ancestors = [] }
+
+row-past : {c v : ℕ} (a : Parts) → Fits c a → c ≤ v → rowAt a v ≡ rowAt nothing v
+unfolding nothing
+row-past {c} {v} a f h = rw (
+  field 0 (omega arith),
+  field 1 (omega arith),
+  field 2 (omega arith),
+  field 3 (omega arith),
+  field 4 (omega arith),
+  field 5 (omega arith),
+  field 6 (omega arith),
+  field 7 (omega arith),
+  field 8 (omega arith),
+  field 9 (omega arith),
+  number 0 (omega arith),
+  number 1 (omega arith),
+  level,
+)
+  where
+    level : levelAt (a .levels) v ≡ pos 0
+    level = List·getD-eq-default (a .levels) (pos 0) (omega (arith, f .levels))
+
+    field : (k : ℕ) → k < 10 → getD (a .fields) (v * 10 + k) 0 ≡ 0
+    field k i = List·getD-eq-default (a .fields) 0 (omega (arith, f .fields))
+
+    number : (k : ℕ) → k < 2 → getD (a .numbers) (v * 2 + k) 0 ≡ 0
+    number k i = List·getD-eq-default (a .numbers) 0 (omega (arith, f .numbers))
+
+entry-past : {c v : ℕ} (a : Parts) → Fits c a → c ≤ v → (i : ℕ) → entryAt (a .ancestors) v i ≡ 0
+entry-past {c} {v} a f h i = List·getD-eq-default (a .ancestors) 0 (omega (arith, f .ancestors))
+
+same-past : {c v : ℕ} (a b : Parts) → Fits c a → Fits c b → c ≤ v → SameRow a b v
+same-past a b f g h =
+    record { row = row-past a f h ∙ sym (row-past b g h); entry = λ i _. entry-past a f h i ∙ sym (entry-past b g h i) }
+
+capacity-is : {c : ℕ} (a : Parts) → Fits c a → capacityOf a ≡ Capacity c
+capacity-is a f = sym (capacity-fits a (rw (f .levels) f)) ∙ ap Capacity (f .levels)
+
+-- parts that agree in the rows of a question give it the same outcome
+decided : {c : ℕ} (a b : Parts) → Fits c a → Fits c b → (s : State) (x y : ℕ)
+    → Every (Agree (tableOf a (s .count) (s .root)) (tableOf b (s .count) (s .root))) (rowsRead (tableOf a (s .count) (s .root)) x y)
+    → question b s x y ≡ question a s x y
+unfolding question asked
+decided {c} a b f g s x y h = rw (
+  capacity-is a f,
+  capacity-is b g,
+  served-same {t = tableOf a (s .count) (s .root)} {u = tableOf b (s .count) (s .root)} refl (agree none (same-past a b f g (omega (arith, f .most)))) refl x y h,
+)
+  where
+    agree : (v : ℕ) → SameRow a b v → Agree (tableOf a (s .count) (s .root)) (tableOf b (s .count) (s .root)) v
+    agree v z = record { row = z .row; entry = z .entry }
+
+-- a question draws on at most 33 rows
+pub question-few-rows : {c : ℕ} (a : Parts) → Fits c a → (s : State) (x y : ℕ) → DrawsOn most c a s x y
+question-few-rows {c} a f s x y = record { rows = rows; few = omega arith; decide = decide }
+  where
+    t : Parts → Table
+    t b = tableOf b (s .count) (s .root)
+
+    rows : List ℕ
+    rows = rowsRead (t a) x y
+
+    decide : (b : Parts) → Fits c b → ((i : ℕ) → i < length rows → getD rows i 0 < c → SameRow a b (getD rows i 0)) → question b s x y ≡ question a s x y
+    decide b g h = decided a b f g s x y (every (Agree (t a) (t b)) rows agree)
+      where
+        agree : (i : ℕ) → i < length rows → Agree (t a) (t b) (getD rows i 0)
+        agree i j = elim (decLt (getD rows i 0) c) [
+          | yes k ↦ record { row = h i j k .row; entry = h i j k .entry }
+          | no k ↦ let z = same-past {v = getD rows i 0} a b f g (omega arith) in record { row = z .row; entry = z .entry }
+        ]
