@@ -78,15 +78,14 @@ module _ {capacity : ℕ} {t : Table} (r : Rules capacity t) (fits : capacity �
       }
 
   -- two nodes have one answer
-  answers-one : {x y : ℕ} {a b : Answer} → x < t .count → y < t .count → Answers (plain t) (label t) x y a → Answers (plain t) (label t) x y b
-      → given a ≡ given b
+  pub answers-one : {x y : ℕ} {a b : Answer} → x < t .count → y < t .count → Answers (plain t) (label t) x y a → Answers (plain t) (label t) x y b → a ≡ b
   answers-one {x} {y} {a} {b} l m f g =
       let tree = plain-tree r fits l in
       let e = characteristic-unique (depth-forest tree) l m (f .characteristic) (g .characteristic) in
       let i : a .distanceX ≡ b .distanceX = steps-one tree l (rw (e .nca) at (f .distanceX)) (g .distanceX) in
       let j : a .distanceY ≡ b .distanceY = steps-one tree m (rw (e .nca) at (f .distanceY)) (g .distanceY) in
       let k : a .label ≡ b .label = cc in
-      cc
+      rw (e .nca, e .toX, e .toY, i, j, k)
 
 -- parts that fit a capacity tell it
 fits-told : {c : ℕ} {parts : Parts} → Fits c parts → capacityOf parts ≡ Capacity c
@@ -109,7 +108,7 @@ module _ {c : ℕ} (parts : Parts) (state : State) (f : Fits c parts) (r : Rules
   -- whatever is the answer on the plain tree is the outcome
   pub question-answer : {x y : ℕ} {a : Answer} → x < state .count → y < state .count
       → Answers (plain (recorded parts state)) (label (recorded parts state)) x y a → question parts state x y ≡ given a
-  question-answer {x} {y} l m h = let e = question-exact parts state x y f r l m in e .outcome ∙ answers-one r (f .most) l m (e .answers) h
+  question-answer {x} {y} l m h = let e = question-exact parts state x y f r l m in e .outcome ∙ ap given (answers-one r (f .most) l m (e .answers) h)
 
   -- a question on a node with itself gives it three times, at distances 0
   pub question-itself : (x : ℕ) → x < state .count → question parts state x x ≡ answer x x x (pos 0) (pos 0) (label (recorded parts state) x)

@@ -1,0 +1,9 @@
+pub mod Bytes
+pub mod Decimal
+pub mod DecimalLaws
+pub mod Line
+pub mod LineLaws
+pub mod SignLaws
+pub mod Text
+pub mod TextLaws
+pub mod Worked
