@@ -5,3 +5,6 @@ pub mod Walk
 pub mod Outcome
 pub mod Alike
 pub mod AlikeLaws
+pub mod LabelLaws
+pub mod PlainParentExact
+pub mod AlikeExact
