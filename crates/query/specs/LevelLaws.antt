@@ -16,7 +16,7 @@ cond-abs false x y p q = q
 sub-abs : (a b : ℕ) → natAbs (subℕ a b) ≤ suc (a + b)
 sub-abs a b = cond-abs (ltb a b) (negsuc (b - suc a)) (pos (a - b)) (omega arith) (omega arith)
 
-add-abs : (a b : ℤ) → natAbs (a +ℤ b) ≤ suc (natAbs a + natAbs b)
+pub add-abs : (a b : ℤ) → natAbs (a +ℤ b) ≤ suc (natAbs a + natAbs b)
 add-abs (pos a) (pos b) = omega arith
 add-abs (pos a) (negsuc b) = omega (arith, sub-abs a (suc b))
 add-abs (negsuc a) (pos b) = omega (arith, sub-abs b (suc a))
@@ -27,7 +27,7 @@ neg-abs (pos zero) = omega arith
 neg-abs (pos (suc n)) = omega arith
 neg-abs (negsuc n) = omega arith
 
-mag-abs : (z : ℤ) → mag z ≤ natAbs z
+pub mag-abs : (z : ℤ) → mag z ≤ natAbs z
 mag-abs (pos n) = omega arith
 mag-abs (negsuc n) = omega arith
 

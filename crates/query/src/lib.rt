@@ -2,8 +2,8 @@
 // All of it only reads, and takes the same few steps on every table.
 mod compressed;
 mod plain;
-mod row;
-mod stored;
+pub mod row;
+pub mod stored;
 
 use plain::plain_answer;
 use row::is_row;

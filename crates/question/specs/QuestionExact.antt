@@ -88,11 +88,11 @@ module _ {capacity : ℕ} {t : Table} (r : Rules capacity t) (fits : capacity �
       rw (e .nca, e .toX, e .toY, i, j, k)
 
 -- parts that fit a capacity tell it
-fits-told : {c : ℕ} {parts : Parts} → Fits c parts → capacityOf parts ≡ Capacity c
+pub fits-told : {c : ℕ} {parts : Parts} → Fits c parts → capacityOf parts ≡ Capacity c
 fits-told {c} {parts} f = sym (capacity-fits parts (rw (f .levels) f)) ∙ ap Capacity (f .levels)
 
 -- count and root of a table that passes inspection stand
-rules-standing : {c : ℕ} (parts : Parts) (state : State) → Rules c (recorded parts state) → isStanding c state ≡ true
+pub rules-standing : {c : ℕ} (parts : Parts) (state : State) → Rules c (recorded parts state) → isStanding c state ≡ true
 rules-standing {c} parts state r = says-true (says-standing c state) record { count = r .one .count; noRoot = r .one .noRoot; root = r .one .root }
 
 -- The theorem

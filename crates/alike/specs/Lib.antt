@@ -1,0 +1,10 @@
+pub mod Levels
+pub mod LevelLaws
+pub mod PlainParent
+pub mod Walk
+pub mod Outcome
+pub mod Alike
+pub mod AlikeLaws
+pub mod LabelLaws
+pub mod PlainParentExact
+pub mod AlikeExact

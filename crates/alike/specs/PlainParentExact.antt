@@ -1,0 +1,46 @@
+-- On a table that passes inspection the plain parent that the code finds is that of the plain tree.
+use mathlib.Core.Path.{_≡_, refl, sym, _∙_}
+use mathlib.Core.Bool.{Bool, true, false}
+use Prim.Native.Nat.{ℕ, _≤_, _<_}
+use native.Mathlib.Omega.{arith}
+use lib.Dec.{eqb}
+use lib.IntN.{pos, _+ℤ_}
+use Rattle.laws.specs.Test.{says-eq, says-eqb, pick}
+use Rattle.tree_laws.specs.Ancestor.{none, Forest}
+use Rattle.tree_laws.specs.NcaLaws.{nca-anc, nca-unique}
+use Rattle.tree_laws.specs.PlainFromStored.{plainStep, plain-parent-step}
+use Rattle.rows.specs.Capacity.{capacityLimit}
+use Rattle.rows.specs.Table.{Table, parent, depth, level}
+use Rattle.rows.specs.PlainTree.{plain}
+use Rattle.rows.specs.Rules.{Rules}
+use Rattle.numbering.specs.Numbered.{numbered, storedTree}
+use Rattle.numbering.specs.LevelLaws.{line-level, level-line}
+use Rattle.query.specs.StoredAnswer.{storedAnswer}
+use Rattle.question.specs.StoredExact.{stored-exact}
+use Rattle.alike.specs.LevelLaws.{says-eqZ}
+use Rattle.alike.specs.PlainParent.{isLineLevel, towardRoot, plainUp}
+
+-- a branch that is taken where its own test holds
+pick-twice : (b c : Bool) (u w v : ℕ) → pick b u (pick c (pick c w u) v) ≡ pick b u (pick c w v)
+pick-twice b true u w v = refl
+pick-twice b false u w v = refl
+
+module _ {capacity : ℕ} {t : Table} (r : Rules capacity t) (fits : capacity ≤ capacityLimit) where
+  tree : Forest (parent t) (depth t) (t .count)
+  tree = storedTree (numbered r fits)
+
+  -- the level of z is minus its depth exactly where z is its own nearest common ancestor with the root
+  line-test : (z : ℕ) → z < t .count → isLineLevel t z ≡ eqb (storedAnswer t z (t .root) .nca) z
+  line-test z l =
+      let nca = stored-exact r fits z (t .root) l (r .one .root (omega arith)) .characteristic .nca in
+      says-eq (λ e. nca-unique tree l nca (nca-anc (level-line r fits z l e))) (λ e. line-level r fits z l (rw e at (nca .right)))
+      (says-eqZ (level t z +ℤ pos (depth t z)) (pos 0)) (says-eqb (storedAnswer t z (t .root) .nca) z)
+
+  pub plain-up : (z : ℕ) → z < t .count → plainUp t z ≡ plain t z
+  unfolding plainUp towardRoot plainStep
+  plain-up z l =
+      let o : t .root < t .count = r .one .root (omega arith) in
+      let f = stored-exact r fits z (t .root) l o in
+      rw (line-test z l, f .sound)
+      (pick-twice (eqb z (t .root)) (eqb (storedAnswer t z (t .root) .nca) z) none (storedAnswer t z (t .root) .«to_y») (parent t z) ∙
+      sym (plain-parent-step tree o l (f .characteristic)))
