@@ -1,0 +1,11 @@
+pub mod Choice
+pub mod Recorded
+pub mod RecordedLaws
+pub mod Compressed
+pub mod CompressedLaws
+pub mod SetSizes
+pub mod Nested
+pub mod Entries
+pub mod EntriesLaws
+pub mod Inspects
+pub mod Exact
