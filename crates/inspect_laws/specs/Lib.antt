@@ -1,4 +1,5 @@
 pub mod Choice
+pub mod All
 pub mod Recorded
 pub mod RecordedLaws
 pub mod Compressed

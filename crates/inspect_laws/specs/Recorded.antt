@@ -36,41 +36,43 @@ eqZ (negsuc a) (negsuc b) = eqb a b
 abbrev pub levelBelow : Bool → ℤ → ℤ
 levelBelow line l = pick line (l -ℤ pos 1) (l +ℤ pos 1)
 
-abbrev pub isLevel : Table → ℕ → Bool
-isLevel t x = pick (eqb (parent t x) none) (eqZ (level t x) (pos 0)) (eqZ (level t x) (levelBelow (isOnLine t x) (level t (parent t x))))
+-- level and label of x, which lies on the line or not
+abbrev pub isLevelOn : Table → Bool → ℕ → Bool
+isLevelOn t line x = pick (eqb (parent t x) none) (eqZ (level t x) (pos 0)) (eqZ (level t x) (levelBelow line (level t (parent t x))))
 
-abbrev pub isLabel : Table → ℕ → Bool
-isLabel t x = pick (isOnLine t x) (eqb (label t x) 0) (leb 1 (label t x) && leb (label t x) labelLimit)
+abbrev pub isLabelOn : Table → Bool → ℕ → Bool
+isLabelOn t line x = pick line (eqb (label t x) 0) (leb 1 (label t x) && leb (label t x) labelLimit)
 
 -- the least child of v among the m rows from k on, or none
-unfoldable pub firstIn : Table → ℕ → ℕ → ℕ → ℕ
-firstIn t v k zero = none
-firstIn t v k (suc m) = pick (eqb (parent t k) v) k (firstIn t v (suc k) m)
+unfoldable pub firstIn : (ℕ → ℕ) → ℕ → ℕ → ℕ → ℕ
+firstIn up v k zero = none
+firstIn up v k (suc m) = pick (eqb (up k) v) k (firstIn up v (suc k) m)
 
-abbrev pub firstFrom : Table → ℕ → ℕ → ℕ
-firstFrom t v k = firstIn t v k (t .count - k)
+-- the least child of v from k on, below n
+abbrev pub firstFrom : (ℕ → ℕ) → ℕ → ℕ → ℕ → ℕ
+firstFrom up n v k = firstIn up v k (n - k)
 
--- the greatest child of v below k, or none
-unfoldable pub lastBelow : Table → ℕ → ℕ → ℕ
-lastBelow t v zero = none
-lastBelow t v (suc k) = pick (eqb (parent t k) v) k (lastBelow t v k)
+-- the greatest child of v below n, or none
+unfoldable pub lastBelow : (ℕ → ℕ) → ℕ → ℕ → ℕ
+lastBelow up zero v = none
+lastBelow up (suc n) v = pick (eqb (up n) v) n (lastBelow up n v)
 
 abbrev pub isFirst : Table → ℕ → Bool
-isFirst t x = eqb (t .row x .first) (firstFrom t x 0)
+isFirst t x = eqb (t .row x .first) (firstFrom (parent t) (t .count) x 0)
 
 abbrev pub isLast : Table → ℕ → Bool
-isLast t x = eqb (t .row x .last) (lastBelow t x (t .count))
+isLast t x = eqb (t .row x .last) (lastBelow (parent t) (t .count) x)
 
 -- the next link of x leads to the next child of its parent; node 0 has no siblings
 abbrev pub isNext : Table → ℕ → Bool
-isNext t x = eqb (t .row x .next) (pick (eqb (parent t x) none) none (firstFrom t (parent t x) (x + 1)))
+isNext t x = eqb (t .row x .next) (pick (eqb (parent t x) none) none (firstFrom (parent t) (t .count) (parent t x) (x + 1)))
 
 -- parents and depths; levels and labels; child links
 abbrev pub areParents : Table → Bool
 areParents t = allTo (λ x. isParent t x && isDepth t x) (t .count)
 
 abbrev pub areLevels : Table → Bool
-areLevels t = allTo (λ x. isLevel t x && isLabel t x) (t .count)
+areLevels t = allTo (λ x. isLevelOn t (isOnLine t x) x && isLabelOn t (isOnLine t x) x) (t .count)
 
 abbrev pub areLinks : Table → Bool
 areLinks t = allTo (isNext t) (t .count) && (allTo (isFirst t) (t .count) && allTo (isLast t) (t .count))

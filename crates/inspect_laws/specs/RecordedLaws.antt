@@ -18,7 +18,7 @@ use Rattle.rows.specs.Table.{Table, parent, depth, label, level}
 use Rattle.rows.specs.StoredTree.{Child, FirstFrom, absent, least, LastOf, greatest, ChildLinks, OnLine, Level, labelLimit, Label, Depth}
 use Rattle.rows.specs.Rules.{Each, Recorded}
 use Rattle.inspect_laws.specs.Choice.{says-pick}
-use Rattle.inspect_laws.specs.Recorded.{stateOf, isParent, isDepth, isOnLine, eqZ, levelBelow, isLevel, isLabel, firstIn, firstFrom, lastBelow, isFirst, isLast, isNext, areParents, areLevels, areLinks, isRecorded}
+use Rattle.inspect_laws.specs.Recorded.{stateOf, isParent, isDepth, isOnLine, eqZ, levelBelow, isLevelOn, isLabelOn, firstIn, firstFrom, lastBelow, isFirst, isLast, isNext, areParents, areLevels, areLinks, isRecorded}
 
 -- Parents and depths ---------------------------------------------------------
 
@@ -55,7 +55,7 @@ says-eqZ (pos a) (negsuc b) = fails (λ e. pos-ne-negsuc a b e)
 says-eqZ (negsuc a) (pos b) = fails (λ e. pos-ne-negsuc b a (cc))
 says-eqZ (negsuc a) (negsuc b) = says-map (λ e. ap negsuc e) (λ e. cc) (says-eqb a b)
 
-says-level : (t : Table) (x : ℕ) → Says (OnLine t x) (isOnLine t x) → Says (Level t x) (isLevel t x)
+says-level : (t : Table) (x : ℕ) → Says (OnLine t x) (isOnLine t x) → Says (Level t x) (isLevelOn t (isOnLine t x) x)
 says-level t x line = says-map
     (λ h. record { first = h .0; onLine = λ d. h .1 d .0; offLine = λ d. h .1 d .1 })
     (λ p. (p .first, λ d. (p .onLine d, p .offLine d)))
@@ -69,12 +69,12 @@ says-level t x line = says-map
     go (holds o) = says-map (λ e. (λ _. e, λ n. absurd (n o))) (λ h. h .0 o) (says-eqZ (level t x) (levelBelow true above))
     go (fails n) = says-map (λ e. (λ o. absurd (n o), λ _. e)) (λ h. h .1 n) (says-eqZ (level t x) (levelBelow false above))
 
-says-label : (t : Table) (x : ℕ) → Says (OnLine t x) (isOnLine t x) → Says (Label t x) (isLabel t x)
+says-label : (t : Table) (x : ℕ) → Says (OnLine t x) (isOnLine t x) → Says (Label t x) (isLabelOn t (isOnLine t x) x)
 says-label t x line = says-map (λ h. record { onLine = h .0; offLine = h .1 }) (λ p. (p .onLine, p .offLine))
     (says-pick line (λ _. says-eqb (label t x) 0) (λ _. says-and (says-leb 1 (label t x)) (λ _. says-leb (label t x) labelLimit)))
 
 says-levels : (t : Table) → Each t (λ x. Says (OnLine t x) (isOnLine t x)) → Says (Each t (λ x. Level t x × Label t x)) (areLevels t)
-says-levels t line = says-all (λ x. isLevel t x && isLabel t x) (t .count)
+says-levels t line = says-all (λ x. isLevelOn t (isOnLine t x) x && isLabelOn t (isOnLine t x) x) (t .count)
     (λ x l. says-and (says-level t x (line x l)) (λ _. says-label t x (line x l)))
 
 -- Child links ----------------------------------------------------------------
@@ -91,12 +91,12 @@ module _ (t : Table) (v : ℕ) where
   first-later d (absent f) = absent (λ c l z. f c (child-after d l z) z)
   first-later {w = w} d (least l c f) = least {w = w} (omega arith) c (λ b j z. f b (child-after d j z) z)
 
-  first-in : (k m : ℕ) → k + m ≡ t .count → FirstFrom t v k (firstIn t v k m)
+  first-in : (k m : ℕ) → k + m ≡ t .count → FirstFrom t v k (firstIn (parent t) v k m)
   unfolding firstIn
   first-in k zero e = absent (λ c l z. omega (arith, z .inUse))
   first-in k (suc m) e = go (says-eqb (parent t k) v) (first-in (suc k) m (omega arith))
     where
-      go : {b : Bool} → Says (parent t k ≡ v) b → FirstFrom t v (suc k) (firstIn t v (suc k) m) → FirstFrom t v k (pick b k (firstIn t v (suc k) m))
+      go : {b : Bool} → Says (parent t k ≡ v) b → FirstFrom t v (suc k) (firstIn (parent t) v (suc k) m) → FirstFrom t v k (pick b k (firstIn (parent t) v (suc k) m))
       go (holds p) f = first-here (omega arith) p
       go (fails d) f = first-later d f
 
@@ -106,10 +106,10 @@ module _ (t : Table) (v : ℕ) where
   first-one {a = a} (least l c g) (absent f) = absurd (f a l c)
   first-one {a = a} {b} (least l c f) (least j d g) = omega (arith, f b j d, g a l c)
 
-  says-first : (k w : ℕ) → k ≤ t .count → Says (FirstFrom t v k w) (eqb w (firstFrom t v k))
+  says-first : (k w : ℕ) → k ≤ t .count → Says (FirstFrom t v k w) (eqb w (firstFrom (parent t) (t .count) v k))
   says-first k w l =
-      let f : FirstFrom t v k (firstFrom t v k) = first-in k (t .count - k) (omega arith) in
-      says-map (λ e. rw e f) (λ g. first-one g f) (says-eqb w (firstFrom t v k))
+      let f : FirstFrom t v k (firstFrom (parent t) (t .count) v k) = first-in k (t .count - k) (omega arith) in
+      says-map (λ e. rw e f) (λ g. first-one g f) (says-eqb w (firstFrom (parent t) (t .count) v k))
 
   -- the greatest child below k
   data LastBelow (k : ℕ) : ℕ → Type 0 where
@@ -121,12 +121,12 @@ module _ (t : Table) (v : ℕ) where
   last-more {k} {w} d (found i p f) =
       found {w = w} (omega arith) p (λ c l z. elim (ℕ-discrete c k) [ yes e ↦ absurd (d (rw e at z)) | no n ↦ f c (omega arith) z ])
 
-  last-below : (k : ℕ) → LastBelow k (lastBelow t v k)
+  last-below : (k : ℕ) → LastBelow k (lastBelow (parent t) k v)
   unfolding lastBelow
   last-below zero = nothing (λ c l _. omega arith)
   last-below (suc k) = go (says-eqb (parent t k) v) (last-below k)
     where
-      go : {b : Bool} → Says (parent t k ≡ v) b → LastBelow k (lastBelow t v k) → LastBelow (suc k) (pick b k (lastBelow t v k))
+      go : {b : Bool} → Says (parent t k ≡ v) b → LastBelow k (lastBelow (parent t) k v) → LastBelow (suc k) (pick b k (lastBelow (parent t) k v))
       go (holds p) f = found {w = k} (omega arith) p (λ c l _. omega arith)
       go (fails d) f = last-more d f
 
@@ -140,10 +140,10 @@ module _ (t : Table) (v : ℕ) where
   last-one {a = a} (greatest c g) (absent f) = absurd (f a c)
   last-one {a = a} {b} (greatest c f) (greatest d g) = omega (arith, f b d, g a c)
 
-  says-last : (w : ℕ) → Says (LastOf t v w) (eqb w (lastBelow t v (t .count)))
+  says-last : (w : ℕ) → Says (LastOf t v w) (eqb w (lastBelow (parent t) (t .count) v))
   says-last w =
-      let f : LastOf t v (lastBelow t v (t .count)) = last-of (last-below (t .count)) in
-      says-map (λ e. rw e f) (λ g. last-one g f) (says-eqb w (lastBelow t v (t .count)))
+      let f : LastOf t v (lastBelow (parent t) (t .count) v) = last-of (last-below (t .count)) in
+      says-map (λ e. rw e f) (λ g. last-one g f) (says-eqb w (lastBelow (parent t) (t .count) v))
 
 -- the next link of one row
 record Next (t : Table) (x : ℕ) : Type 0 where
@@ -153,7 +153,7 @@ record Next (t : Table) (x : ℕ) : Type 0 where
 says-next : (t : Table) (x : ℕ) → x < t .count → Says (Next t x) (isNext t x)
 says-next t x l = go (says-eqb (parent t x) none)
   where
-    go : {b : Bool} → Says (parent t x ≡ none) b → Says (Next t x) (eqb (t .row x .next) (pick b none (firstFrom t (parent t x) (x + 1))))
+    go : {b : Bool} → Says (parent t x ≡ none) b → Says (Next t x) (eqb (t .row x .next) (pick b none (firstFrom (parent t) (t .count) (parent t x) (x + 1))))
     go (holds e) = says-map (λ z. record { sibling = λ d. absurd (d e); alone = λ _. z }) (λ n. n .alone e) (says-eqb (t .row x .next) none)
     go (fails d) = says-map (λ z. record { sibling = λ _. z; alone = λ e. absurd (d e) }) (λ n. n .sibling d)
         (says-first t (parent t x) (x + 1) (t .row x .next) (omega arith))

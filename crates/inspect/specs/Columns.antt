@@ -1,0 +1,30 @@
+-- Tables of which code has some parts only: what is said of them says nothing of the parts that are left out.
+use mathlib.Core.List.{List, []}
+use Prim.Native.Nat.{ℕ}
+use lib.IntN.{ℤ}
+use Rattle.rows.specs.Layout.{parentPlace, depthPlace}
+use Rattle.rows.specs.Row.{partsOf, fieldAt}
+use Rattle.rows.specs.Table.{Table, tableOf}
+
+-- a table of n rows of which the fields alone are known
+abbrev pub fieldTable : List ℕ → ℕ → Table
+fieldTable f n = tableOf (partsOf f [] [] []) n 0
+
+-- the fields and the levels
+abbrev pub levelTable : List ℕ → List ℤ → ℕ → Table
+levelTable f l n = tableOf (partsOf f [] l []) n 0
+
+-- the fields and the numbers
+abbrev pub spanTable : List ℕ → List ℕ → ℕ → Table
+spanTable f m n = tableOf (partsOf f m [] []) n 0
+
+-- the fields and the ancestor entries
+abbrev pub entryTable : List ℕ → List ℕ → ℕ → Table
+entryTable f a n = tableOf (partsOf f [] [] a) n 0
+
+-- stored parents and depths
+abbrev pub parents : List ℕ → ℕ → ℕ
+parents f x = fieldAt f x parentPlace
+
+abbrev pub depths : List ℕ → ℕ → ℕ
+depths f x = fieldAt f x depthPlace

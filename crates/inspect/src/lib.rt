@@ -1,0 +1,3 @@
+// Inspection: whether a table follows the six rules. Each rule has a file; the scratch holds what a pass works out.
+mod cells;
+mod recorded;
