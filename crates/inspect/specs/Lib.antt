@@ -1,3 +1,5 @@
 pub mod Columns
 pub mod Cells
 pub mod Levels
+pub mod Line
+pub mod Links

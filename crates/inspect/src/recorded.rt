@@ -17,7 +17,10 @@ ghost use lib.Dec.{eqb};
 ghost use lib.IntN.{pos, _-ℤ_};
 ghost use lib.ListN.{getD, length};
 ghost use Rattle.inspect_laws.specs.Recorded.{isParent, isDepth, isLevelOn, isLabelOn, isNext, firstFrom, lastBelow, areParents, eqZ};
+ghost use Rattle.laws.specs.Test.{allTo};
 ghost use Rattle.inspect.specs.Columns.{fieldTable, levelTable, parents, depths};
+ghost use Rattle.inspect.specs.Line.{Marked, isPlaced};
+ghost use Rattle.inspect.specs.Links.{InRange, Lasts, Nexts, isNextIn};
 
 // Node 0 has no stored parent, row x a smaller one.
 fn is_parent(fields: &[u16], x: u16) -> bool
@@ -96,4 +99,84 @@ fn is_label(fields: &[u16], line: bool, x: u16) -> bool
         return l == 0;
     }
     (1 <= l) & (l <= 9999)
+}
+
+// Marks by 1 the rows from the root up, as many as the root's depth says; all other cells are 0.
+fn mark_line(fields: &[u16], s: &mut [u16], root: u16)
+    ensures { λ r. ⌜ Marked (parents (now (fields .entry))) (depths (now (fields .entry))) root (now (s .exit)) ⌝ }
+{
+    fill(s, 0);
+    let mut left = field(fields, root, DEPTH);
+    let mut z = root;
+    while z != NONE {
+        put(s, z, 1);
+        if left == 0 {
+            return;
+        }
+        left -= 1;
+        z = field(fields, z, PARENT);
+    }
+}
+
+// Level and label of row x, by its mark.
+fn is_placed(fields: &[u16], levels: &[i32], s: &[u16], x: u16) -> bool
+    ensures { λ r. ⌜ r ≡ isPlaced (levelTable (now (fields .entry)) (now (levels .entry)) 0) (now (s .entry)) x ⌝ }
+{
+    let line = cell(s, x) == 1;
+    is_level(fields, levels, line, x) & is_label(fields, line, x)
+}
+
+// Levels and labels of the rows below n, by their marks.
+fn are_placed(fields: &[u16], levels: &[i32], s: &[u16], n: u16) -> bool
+    ensures { λ r. ⌜ r ≡ allTo (isPlaced (levelTable (now (fields .entry)) (now (levels .entry)) 0) (now (s .entry))) n ⌝ }
+{
+    let mut x: u16 = 0;
+    while x < n {
+        if !is_placed(fields, levels, s, x) {
+            return false;
+        }
+        x += 1;
+    }
+    true
+}
+
+// The next link of row x, whose parent is p, where the cell of p holds the next child after x.
+fn is_next(fields: &[u16], s: &[u16], p: u16, x: u16) -> bool
+    ensures { λ r. ⌜ r ≡ isNextIn (now (fields .entry)) (now (s .entry)) p x ⌝ }
+{
+    let next = field(fields, x, NEXT);
+    if p == NONE {
+        return next == NONE;
+    }
+    next == cell(s, p)
+}
+
+// The next links of the rows below n, from the last row down; the cell of each row then holds its first child.
+fn are_next(fields: &[u16], s: &mut [u16], n: u16) -> bool
+    requires { ⌜ InRange (parents (now fields)) n (length (now s)) ⌝ }
+    ensures { λ r. ⌜ Nexts (now (fields .entry)) n (now (s .exit)) r ⌝ }
+{
+    fill(s, NONE);
+    let mut x = n;
+    while 0 < x {
+        x -= 1;
+        let p = field(fields, x, PARENT);
+        if !is_next(fields, s, p, x) {
+            return false;
+        }
+        put(s, p, x);
+    }
+    true
+}
+
+// The cell of each row holds its last child below n.
+fn keep_lasts(fields: &[u16], s: &mut [u16], n: u16)
+    ensures { λ r. ⌜ Lasts (parents (now (fields .entry))) n (now (s .exit)) ⌝ }
+{
+    fill(s, NONE);
+    let mut x: u16 = 0;
+    while x < n {
+        put(s, field(fields, x, PARENT), x);
+        x += 1;
+    }
 }
