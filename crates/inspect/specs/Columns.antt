@@ -2,7 +2,7 @@
 use mathlib.Core.List.{List, []}
 use Prim.Native.Nat.{ℕ}
 use lib.IntN.{ℤ}
-use Rattle.rows.specs.Layout.{parentPlace, depthPlace}
+use Rattle.rows.specs.Layout.{parentPlace, depthPlace, upperPlace, pathPlace, sizePlace, setSizePlace}
 use Rattle.rows.specs.Row.{partsOf, fieldAt}
 use Rattle.rows.specs.Table.{Table, tableOf}
 
@@ -13,6 +13,10 @@ fieldTable f n = tableOf (partsOf f [] [] []) n 0
 -- the fields and the levels
 abbrev pub levelTable : List ℕ → List ℤ → ℕ → Table
 levelTable f l n = tableOf (partsOf f [] l []) n 0
+
+-- the same with its root
+abbrev pub rootTable : List ℕ → List ℤ → ℕ → ℕ → Table
+rootTable f l n root = tableOf (partsOf f [] l []) n root
 
 -- the fields and the numbers
 abbrev pub spanTable : List ℕ → List ℕ → ℕ → Table
@@ -28,3 +32,16 @@ parents f x = fieldAt f x parentPlace
 
 abbrev pub depths : List ℕ → ℕ → ℕ
 depths f x = fieldAt f x depthPlace
+
+-- compressed parents, path links, sizes and set sizes
+abbrev pub uppers : List ℕ → ℕ → ℕ
+uppers f x = fieldAt f x upperPlace
+
+abbrev pub paths : List ℕ → ℕ → ℕ
+paths f x = fieldAt f x pathPlace
+
+abbrev pub sizes : List ℕ → ℕ → ℕ
+sizes f x = fieldAt f x sizePlace
+
+abbrev pub setSizes : List ℕ → ℕ → ℕ
+setSizes f x = fieldAt f x setSizePlace

@@ -1,14 +1,19 @@
 // Rule 1: parents, depths, levels, labels and child links record one tree.
 use crate::cells::cell;
 use crate::cells::fill;
+use crate::cells::matches;
 use crate::cells::put;
 use rows::layout::DEPTH;
+use rows::layout::FIRST;
 use rows::layout::LABEL;
+use rows::layout::LAST;
 use rows::layout::NEXT;
 use rows::layout::NONE;
 use rows::layout::PARENT;
 use rows::row::field;
 use rows::row::level;
+use rows::state::State;
+use rows::state::is_standing;
 ghost use mathlib.Core.Path.{_≡_};
 ghost use mathlib.Core.Logic.{_≢_};
 ghost use Prim.Native.Nat.{ℕ, _<_, _≤_};
@@ -16,9 +21,9 @@ ghost use mathlib.Core.Bool.{_&&_};
 ghost use lib.Dec.{eqb};
 ghost use lib.IntN.{pos, _-ℤ_};
 ghost use lib.ListN.{getD, length};
-ghost use Rattle.inspect_laws.specs.Recorded.{isParent, isDepth, isLevelOn, isLabelOn, isNext, firstFrom, lastBelow, areParents, eqZ};
+ghost use Rattle.inspect_laws.specs.Recorded.{isParent, isDepth, isLevelOn, isLabelOn, isNext, firstFrom, lastBelow, areLinks, areParents, eqZ, isRecorded};
 ghost use Rattle.laws.specs.Test.{allTo};
-ghost use Rattle.inspect.specs.Columns.{fieldTable, levelTable, parents, depths};
+ghost use Rattle.inspect.specs.Columns.{fieldTable, levelTable, rootTable, parents, depths};
 ghost use Rattle.inspect.specs.Line.{Marked, isPlaced};
 ghost use Rattle.inspect.specs.Links.{InRange, Lasts, Nexts, isNextIn};
 
@@ -179,4 +184,45 @@ fn keep_lasts(fields: &[u16], s: &mut [u16], n: u16)
         put(s, field(fields, x, PARENT), x);
         x += 1;
     }
+}
+
+// Child links of the rows below n.
+fn are_links(fields: &[u16], s: &mut [u16], n: u16) -> bool
+    requires { ⌜ InRange (parents (now fields)) n (length (now s)) ⌝ }
+    requires { ⌜ n ≤ length (now s) ⌝ }
+    ensures { λ r. ⌜ r ≡ areLinks (fieldTable (now (fields .entry)) n) ⌝ }
+{
+    if !are_next(fields, s, n) {
+        return false;
+    }
+    if !matches(fields, s, FIRST, n) {
+        return false;
+    }
+    keep_lasts(fields, s, n);
+    matches(fields, s, LAST, n)
+}
+
+// Rule 1, on a scratch of one cell to a row of the capacity.
+pub fn is_recorded(
+    fields: &[u16],
+    levels: &[i32],
+    s: &mut [u16],
+    capacity: usize,
+    state: State,
+) -> bool
+    requires { ⌜ (capacity ≤ 32768) × (length (now s) ≡ capacity) ⌝ }
+    ensures { λ r. ⌜ r ≡ isRecorded capacity (rootTable (now (fields .entry)) (now (levels .entry)) (state .count) (state .root)) ⌝ }
+{
+    if !is_standing(capacity, state) {
+        return false;
+    }
+    let n = state.count;
+    if !are_parents(fields, n) {
+        return false;
+    }
+    mark_line(fields, s, state.root);
+    if !are_placed(fields, levels, s, n) {
+        return false;
+    }
+    are_links(fields, s, n)
 }

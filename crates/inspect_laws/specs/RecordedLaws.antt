@@ -7,7 +7,7 @@ use native.Mathlib.Decide.{ℕ-discrete}
 use native.Mathlib.Omega.{arith}
 use lib.Dec.{leb, ltb, eqb}
 use lib.IntN.{ℤ, pos, negsuc, pos-ne-negsuc}
-use Rattle.laws.specs.Test.{Says, holds, fails, says-map, says-and, says-leb, says-ltb, says-eqb, says-all, pick}
+use Rattle.laws.specs.Test.{Says, holds, fails, says-map, says-and, says-leb, says-ltb, says-eqb, says-all, says-get, pick}
 use Rattle.tree_laws.specs.Ancestor.{none}
 use Rattle.tree_laws.specs.AncestorLaws.{says-isAncestor}
 use Rattle.tree_laws.specs.Depth.{Depth as Depths}
@@ -46,6 +46,10 @@ depths {t} small h = record {
   root = λ x l. h x l .1 .first;
   step = λ x l. h x l .1 .below;
 }
+
+-- the same from the test
+pub stored-depths : (t : Table) → t .count ≤ none → areParents t ≡ true → Depths (parent t) (depth t) (t .count)
+stored-depths t small e = depths small (says-get (says-parents t) e)
 
 -- Levels and labels ----------------------------------------------------------
 
