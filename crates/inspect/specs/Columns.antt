@@ -5,6 +5,7 @@ use lib.IntN.{ℤ}
 use Rattle.rows.specs.Layout.{parentPlace, depthPlace, upperPlace, pathPlace, sizePlace, setSizePlace}
 use Rattle.rows.specs.Row.{partsOf, fieldAt}
 use Rattle.rows.specs.Table.{Table, tableOf}
+use Rattle.span.specs.Numbers.{reachOf}
 
 -- a table of n rows of which the fields alone are known
 abbrev pub fieldTable : List ℕ → ℕ → Table
@@ -45,3 +46,7 @@ sizes f x = fieldAt f x sizePlace
 
 abbrev pub setSizes : List ℕ → ℕ → ℕ
 setSizes f x = fieldAt f x setSizePlace
+
+-- q − p of each row
+abbrev pub reaches : List ℕ → ℕ → ℕ
+reaches f x = reachOf (setSizes f x)

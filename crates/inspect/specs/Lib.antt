@@ -6,3 +6,4 @@ pub mod Links
 pub mod Sizes
 pub mod RecordedBy
 pub mod SetSizesBy
+pub mod Thresholds
