@@ -2,10 +2,11 @@
 use mathlib.Core.List.{List, []}
 use Prim.Native.Nat.{ℕ}
 use lib.IntN.{ℤ}
-use Rattle.rows.specs.Layout.{parentPlace, depthPlace, upperPlace, pathPlace, sizePlace, setSizePlace}
-use Rattle.rows.specs.Row.{partsOf, fieldAt}
+use Rattle.rows.specs.Layout.{parentPlace, depthPlace, upperPlace, pathPlace, sizePlace, setSizePlace, startPlace}
+use Rattle.rows.specs.Row.{partsOf, fieldAt, numberAt}
 use Rattle.rows.specs.Table.{Table, tableOf}
 use Rattle.span.specs.Numbers.{reachOf}
+use Rattle.inspect_laws.specs.Apart.{orderKey}
 
 -- a table of n rows of which the fields alone are known
 abbrev pub fieldTable : List ℕ → ℕ → Table
@@ -50,3 +51,10 @@ setSizes f x = fieldAt f x setSizePlace
 -- q − p of each row
 abbrev pub reaches : List ℕ → ℕ → ℕ
 reaches f x = reachOf (setSizes f x)
+
+-- starts, and the keys of the order
+abbrev pub starts : List ℕ → ℕ → ℕ
+starts m x = numberAt m x startPlace
+
+abbrev pub keys : List ℕ → List ℕ → ℕ → ℕ
+keys f m = orderKey (uppers f) (starts m)

@@ -7,3 +7,8 @@ pub mod Sizes
 pub mod RecordedBy
 pub mod SetSizesBy
 pub mod Thresholds
+pub mod Places
+pub mod Grouped
+pub mod Whole
+pub mod Inspection
+pub mod InspectionLaws

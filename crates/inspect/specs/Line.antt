@@ -1,5 +1,5 @@
 -- The line from node 0 to the root, marked in the scratch.
-use mathlib.Core.Path.{_≡_, refl, sym, ap, _∙_}
+use mathlib.Core.Path.{_≡_, refl, sym, _∙_}
 use mathlib.Core.Bool.{Bool, true, false, _||_, _&&_, not}
 use mathlib.Core.Logic.{_≢_}
 use mathlib.Core.List.{List}

@@ -3,14 +3,14 @@ use mathlib.Core.Path.{_≡_, refl, sym, ap, _∙_}
 use mathlib.Core.Bool.{Bool, true, false, _||_, not}
 use mathlib.Core.Logic.{_≢_}
 use mathlib.Core.List.{List}
-use Prim.Native.Nat.{ℕ, zero, suc, _+_, _-_, _*_, _≤_, _<_}
+use Prim.Native.Nat.{ℕ, zero, suc, _+_, _-_, _≤_, _<_}
 use native.Mathlib.Decide.{ℕ-discrete}
 use native.Mathlib.Numerals.{add-one}
 use native.Mathlib.Omega.{arith}
 use lib.Dec.{eqb, leb}
-use lib.ListN.{length, getD, set, length-set}
+use lib.ListN.{length, getD, set}
 use borrow.Author.Tests.{not-true, not-false}
-use Rattle.laws.specs.Test.{Says, holds, fails, pick, bit, allTo, says-eqb, says-true, says-false, says-get, says-or, says-leb, says-eq, says-map, says-not-get}
+use Rattle.laws.specs.Test.{Says, holds, fails, pick, allTo, says-eqb, says-true, says-false, says-get, says-leb, says-eq, says-not-get}
 use Rattle.tree_laws.specs.Ancestor.{none}
 use Rattle.tree_laws.specs.Size.{childSum}
 use Rattle.tree_laws.specs.SizeLaws.{childSum-last}

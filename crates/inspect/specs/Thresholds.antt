@@ -1,13 +1,13 @@
 -- The first index whose power the reach of a row lies below, so that the entries of a row need one rank and no powers.
-use mathlib.Core.Path.{_≡_, refl, sym, ap, _∙_}
+use mathlib.Core.Path.{_≡_, ap}
 use mathlib.Core.Bool.{Bool, true, false}
 use mathlib.Core.Logic.{_≢_}
 use mathlib.Core.List.{List}
-use Prim.Native.Nat.{ℕ, zero, suc, _+_, _-_, _*_, _≤_, _<_}
+use Prim.Native.Nat.{ℕ, zero, suc, _+_, _-_, _≤_, _<_}
 use native.Mathlib.Decide.{decLe}
 use native.Mathlib.Omega.{arith}
 use lib.Dec.{eqb, leb, ltb, leb→le}
-use Rattle.laws.specs.Test.{allTo, pick, says-eq, says-ltb, says-leb, says-false, says-true, says-eqb}
+use Rattle.laws.specs.Test.{allTo, pick, says-eq, says-ltb, says-leb}
 use Rattle.laws.specs.Fourth.{fourth-pos, fourth-zero}
 use Rattle.inspect_laws.specs.All.{all-same}
 use Rattle.tree_laws.specs.Ancestor.{none}

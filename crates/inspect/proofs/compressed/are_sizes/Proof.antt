@@ -1,8 +1,8 @@
 -- `are_sizes`: what is left of each size is 1.
-use mathlib.Core.Path.{_≡_, sym, _∙_}
+use mathlib.Core.Path.{_∙_}
 use borrow.Author.Tests.{not-true, not-false}
 use Rattle.inspect.specs.Columns.{sizes, uppers}
-use Rattle.inspect.specs.Sizes.{Taking, Taken, taken-ones}
+use Rattle.inspect.specs.Sizes.{taken-ones}
 use borrow.Author.Needs.{needs}
 use Rattle.inspect.proofs.compressed.are_sizes.Statement.{statement}
 use Rattle.inspect.proofs.compressed.are_sizes.Tie as tie

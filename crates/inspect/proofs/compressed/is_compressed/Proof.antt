@@ -1,5 +1,4 @@
 -- `is_compressed`: both passes answer their test of rule 2.
-use mathlib.Core.Path.{_≡_, sym, _∙_}
 use Rattle.inspect_laws.specs.All.{answer-no, answer-yes}
 use Rattle.inspect_laws.specs.Compressed.{isCompressed}
 use Rattle.inspect.specs.RecordedBy.{linked-range}

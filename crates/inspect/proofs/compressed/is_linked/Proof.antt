@@ -1,5 +1,4 @@
 -- `is_linked` is both tests.
-use mathlib.Core.Path.{_≡_, refl}
 use borrow.Author.Needs.{needs}
 use Rattle.inspect.proofs.compressed.is_linked.Statement.{statement}
 use Rattle.inspect.proofs.compressed.is_linked.Tie as tie

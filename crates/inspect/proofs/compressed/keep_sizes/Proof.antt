@@ -1,6 +1,6 @@
 -- `keep_sizes`: the cells below x hold sizes.
 use mathlib.Core.Path.{_≡_, refl}
-use Prim.Native.Nat.{ℕ, _-_, _≤_, _<_}
+use Prim.Native.Nat.{_-_, _≤_}
 use lib.ListN.{length}
 use Rattle.inspect.specs.Columns.{sizes}
 use Rattle.inspect.specs.Sizes.{Kept, kept-none, kept-more}

@@ -1,6 +1,6 @@
 -- `take_sizes`: what is left in each cell, with the sizes taken from it, is the size.
 use mathlib.Core.Path.{_≡_, refl}
-use Prim.Native.Nat.{ℕ, _-_, _≤_, _<_}
+use Prim.Native.Nat.{_-_, _≤_}
 use lib.ListN.{length}
 use Rattle.inspect.specs.Columns.{sizes, uppers}
 use Rattle.inspect.specs.Sizes.{Taking, taking-start, taking-step, taking-stop, taking-end}

@@ -1,6 +1,5 @@
 -- `is_row`: the entries below i pass.
-use Prim.Native.Nat.{ℕ, _-_, _≤_}
-use mathlib.Core.Bool.{Bool}
+use Prim.Native.Nat.{_-_, _≤_}
 use Rattle.rows.specs.Layout.{entryStride}
 use Rattle.inspect.specs.Thresholds.{isEntryBy, isRowBy}
 use Rattle.inspect_laws.specs.All.{Passed, passed-none, passed-by, passed-end, stopped-by}

@@ -1,8 +1,7 @@
 -- `are_links`: each pass answers its test.
-use mathlib.Core.Path.{_≡_, sym, _∙_}
+use mathlib.Core.Path.{sym, _∙_}
 use borrow.Author.Tests.{not-false}
 use Rattle.inspect_laws.specs.All.{answer-no, answer-yes}
-use Rattle.inspect.specs.Links.{range-same}
 use Rattle.inspect.specs.RecordedBy.{stop-next, stop-first, all-links, matched-firsts, matched-lasts}
 use borrow.Author.Needs.{needs}
 use Rattle.inspect.proofs.recorded.are_links.Statement.{statement}

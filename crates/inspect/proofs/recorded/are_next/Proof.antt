@@ -1,6 +1,6 @@
 -- `are_next`: the rows from x on pass, and each cell holds the first child from x on.
 use mathlib.Core.Path.{_≡_, refl}
-use Prim.Native.Nat.{ℕ, _-_, _≤_, _<_}
+use Prim.Native.Nat.{_-_, _≤_}
 use lib.ListN.{length}
 use Rattle.inspect.specs.Links.{range-same, Nexting, nexting-start, nexting-step, nexting-stop, nexting-end}
 use borrow.Author.Needs.{needs}

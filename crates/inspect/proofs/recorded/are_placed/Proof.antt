@@ -1,6 +1,5 @@
 -- `are_placed`: the rows below x pass.
-use Prim.Native.Nat.{ℕ, _-_, _≤_}
-use mathlib.Core.Bool.{Bool}
+use Prim.Native.Nat.{_-_, _≤_}
 use Rattle.inspect.specs.Columns.{levelTable}
 use Rattle.inspect.specs.Line.{isPlaced}
 use Rattle.inspect_laws.specs.All.{Passed, passed-none, passed-by, passed-end, stopped-by}

@@ -1,5 +1,4 @@
 -- `is_depth` by whether the row has a parent.
-use mathlib.Core.Path.{ap, _∙_}
 use borrow.Author.Tests.{eq-eqb, ne-eqb}
 use borrow.Author.Needs.{needs}
 use Rattle.inspect.proofs.recorded.is_depth.Statement.{statement}

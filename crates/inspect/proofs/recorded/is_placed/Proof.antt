@@ -1,5 +1,4 @@
 -- `is_placed` is both tests.
-use mathlib.Core.Path.{_≡_, refl}
 use borrow.Author.Needs.{needs}
 use Rattle.inspect.proofs.recorded.is_placed.Statement.{statement}
 use Rattle.inspect.proofs.recorded.is_placed.Tie as tie

@@ -1,5 +1,4 @@
 -- `is_stored` is both tests.
-use mathlib.Core.Path.{_≡_, refl}
 use borrow.Author.Needs.{needs}
 use Rattle.inspect.proofs.recorded.is_stored.Statement.{statement}
 use Rattle.inspect.proofs.recorded.is_stored.Tie as tie

@@ -1,6 +1,6 @@
 -- `keep_lasts`: each cell holds the last child below x.
 use mathlib.Core.Path.{_≡_, refl}
-use Prim.Native.Nat.{ℕ, _-_, _≤_, _<_}
+use Prim.Native.Nat.{_-_, _≤_}
 use lib.ListN.{length}
 use Rattle.inspect.specs.Columns.{parents}
 use Rattle.inspect.specs.Links.{Lasts, lasts-none, lasts-more}

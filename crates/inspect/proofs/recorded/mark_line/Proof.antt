@@ -2,7 +2,7 @@
 use mathlib.Core.Path.{_≡_, refl}
 use lib.ListN.{length}
 use Rattle.inspect.specs.Columns.{parents, depths}
-use Rattle.inspect.specs.Line.{Marked, Marking, met, marking-start, marking-step, marking-last, marking-end}
+use Rattle.inspect.specs.Line.{Marking, met, marking-start, marking-step, marking-last, marking-end}
 use borrow.Author.Needs.{needs}
 use native.Mathlib.Omega.{arith}
 use Rattle.inspect.proofs.recorded.mark_line.Statement.{statement}

@@ -1,6 +1,5 @@
 -- `are_set_sizes`: the rows below x pass.
-use Prim.Native.Nat.{ℕ, _-_, _≤_}
-use mathlib.Core.Bool.{Bool}
+use Prim.Native.Nat.{_-_, _≤_}
 use Rattle.inspect_laws.specs.SetSizes.{isSetSize, areSetSizes}
 use Rattle.inspect.specs.Columns.{fieldTable}
 use Rattle.inspect_laws.specs.All.{Passed, passed-none, passed-by, passed-end, stopped-by}

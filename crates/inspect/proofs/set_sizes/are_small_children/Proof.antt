@@ -1,6 +1,5 @@
 -- `are_small_children`: the rows below x pass.
-use Prim.Native.Nat.{ℕ, _-_, _≤_}
-use mathlib.Core.Bool.{Bool}
+use Prim.Native.Nat.{_-_, _≤_}
 use Rattle.inspect_laws.specs.SetSizes.{isSmallChild, areSmallChildren}
 use Rattle.inspect.specs.Columns.{fieldTable}
 use Rattle.inspect_laws.specs.All.{Passed, passed-none, passed-by, passed-end, stopped-by}
