@@ -1,0 +1,14 @@
+pub mod Columns
+pub mod Cells
+pub mod Levels
+pub mod Line
+pub mod Links
+pub mod Sizes
+pub mod RecordedBy
+pub mod SetSizesBy
+pub mod Thresholds
+pub mod Places
+pub mod Grouped
+pub mod Whole
+pub mod Inspection
+pub mod InspectionLaws

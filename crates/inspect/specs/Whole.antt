@@ -1,0 +1,77 @@
+-- Inspection as a call answers it (01, "Inspection"; refusal 3): the definition, and how the answers of the six rules make it up.
+use mathlib.Core.Path.{_≡_, refl}
+use mathlib.Core.Bool.{Bool, true, false, _&&_}
+use mathlib.Core.List.{List}
+use Prim.Native.Nat.{ℕ, _≤_}
+use native.Mathlib.Omega.{arith}
+use lib.IntN.{ℤ}
+use Rattle.laws.specs.Test.{says-get}
+use Rattle.rows.specs.Row.{partsOf}
+use Rattle.rows.specs.Table.{tableOf}
+use Rattle.rows.specs.State.{isStanding}
+use Rattle.rows.specs.StateLaws.{says-standing}
+use Rattle.inspect_laws.specs.Recorded.{stateOf, areParents, areLevels, areLinks, isRecorded}
+use Rattle.inspect_laws.specs.Compressed.{isCompressed}
+use Rattle.inspect_laws.specs.SetSizes.{areSetSizes, areSmallChildren, says-setSizes}
+use Rattle.inspect_laws.specs.Nested.{areNested}
+use Rattle.inspect_laws.specs.Entries.{areEntries}
+use Rattle.inspect_laws.specs.Inspects.{inspects}
+use Rattle.inspect.specs.Columns.{fieldTable, rootTable, spanTable, entryTable}
+use Rattle.inspect.specs.Grouped.{Positive}
+use Rattle.inspect.specs.RecordedBy.{Stored}
+
+-- what rule 1 tells the passes that follow
+pub record Known (f : List ℕ) (n capacity : ℕ) : Type 0 where
+  pub stored : Stored f n
+  pub count : n ≤ capacity
+
+and-left : (a b : Bool) → (a && b) ≡ true → a ≡ true
+and-left true b e = refl
+and-left false b e = e
+
+and-right : (a b : Bool) → (a && b) ≡ true → b ≡ true
+and-right true b e = e
+and-right false b e = let z : _≡_ {A = ℕ} 0 1 = cc in absurd (omega arith)
+
+pub recorded-known : (f : List ℕ) (l : List ℤ) (n root capacity : ℕ) → capacity ≤ 32768 → isRecorded capacity (rootTable f l n root) ≡ true → Known f n capacity
+unfolding isRecorded
+recorded-known f l n root capacity small e =
+    let t = rootTable f l n root in
+    let a = isStanding capacity (stateOf t) in
+    let b = areParents t in
+    let rest = areLevels t && areLinks t in
+    let s = says-get (says-standing capacity (stateOf t)) (and-left a (b && rest) e) in
+    record { stored = record { small = omega (arith, s .count); parents = and-left b rest (and-right a (b && rest) e) }; count = s .count }
+
+pub set-positive : (f : List ℕ) (n : ℕ) → areSetSizes (fieldTable f n) ≡ true → Positive f n
+set-positive f n e = record { each = λ x l. says-get (says-setSizes (fieldTable f n)) e x l .positive }
+
+-- the answer of the first rule that fails, or of the last
+module _ (f m : List ℕ) (l : List ℤ) (a : List ℕ) (n root capacity : ℕ) where
+  pub stop-one : isRecorded capacity (rootTable f l n root) ≡ false → false ≡ inspects capacity (tableOf (partsOf f m l a) n root)
+  unfolding inspects isRecorded
+  stop-one e = rw e
+
+  module _ (one : isRecorded capacity (rootTable f l n root) ≡ true) where
+    pub stop-two : isCompressed (fieldTable f n) ≡ false → false ≡ inspects capacity (tableOf (partsOf f m l a) n root)
+    unfolding inspects isRecorded isCompressed
+    stop-two e = rw (one, e)
+
+    module _ (two : isCompressed (fieldTable f n) ≡ true) where
+      pub stop-three : areSetSizes (fieldTable f n) ≡ false → false ≡ inspects capacity (tableOf (partsOf f m l a) n root)
+      unfolding inspects isRecorded isCompressed areSetSizes
+      stop-three e = rw (one, two, e)
+
+      module _ (three : areSetSizes (fieldTable f n) ≡ true) where
+        pub stop-four : areSmallChildren (fieldTable f n) ≡ false → false ≡ inspects capacity (tableOf (partsOf f m l a) n root)
+        unfolding inspects isRecorded isCompressed areSetSizes areSmallChildren
+        stop-four e = rw (one, two, three, e)
+
+        module _ (four : areSmallChildren (fieldTable f n) ≡ true) where
+          pub stop-five : areNested (spanTable f m n) ≡ false → false ≡ inspects capacity (tableOf (partsOf f m l a) n root)
+          unfolding inspects isRecorded isCompressed areSetSizes areSmallChildren areNested
+          stop-five e = rw (one, two, three, four, e)
+
+          pub all-six : {r : Bool} → areNested (spanTable f m n) ≡ true → r ≡ areEntries (entryTable f a n) → r ≡ inspects capacity (tableOf (partsOf f m l a) n root)
+          unfolding inspects isRecorded isCompressed areSetSizes areSmallChildren areNested areEntries
+          all-six e h = rw (one, two, three, four, e, h)
