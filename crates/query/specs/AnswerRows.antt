@@ -58,6 +58,14 @@ module _ (t : Table) where
   unfolding sideFrom pastSpan pastReach pastEntry
   side-rows e d o z h = climb-rows _ _ (climb-rows _ _ (climb-rows _ _ (at-entry-rows e z h)))
 
+  -- a sound row: that of a sound side, or else r
+  pub either-row : (e d o z r : ℕ) {s : Side} {k : ℕ} → s ≡ sideFrom t e d o z → k ≡ pick (s .sound) (s .row) r → IsRow t z → IsRow t r → IsRow t k
+  either-row e d o z r {s} {k} h i hz hr = rw (i, h) (go (sideFrom t e d o z .sound) refl)
+    where
+      go : (b : Bool) → sideFrom t e d o z .sound ≡ b → IsRow t (pick b (sideFrom t e d o z .row) r)
+      go true j = side-rows e d o z hz j .row
+      go false j = hr
+
   path-row-row : (s : Side) → SideRows t s → isOnRow t s ≡ true → IsRow t (pathRowOf t s)
   unfolding isOnRow pathRow
   path-row-row s h = go (eqb (s .below) (s .row)) (isApex (parent t) (path t) (s .below))

@@ -1,6 +1,6 @@
 -- A row by its tests, and numbers compared with a row's span by parts, where a product may pass 64 bits.
-use mathlib.Core.Path.{_≡_}
-use mathlib.Core.Bool.{false, _&&_}
+use mathlib.Core.Path.{_≡_, sym}
+use mathlib.Core.Bool.{true, false, _&&_}
 use mathlib.Core.List.{List}
 use Prim.Native.Nat.{ℕ, _+_, _-_, _*_, _/_, _^_, _≤_, _<_}
 use native.Mathlib.Nat.{div-lt-iff-lt-mul}
@@ -8,7 +8,7 @@ use native.Mathlib.Omega.{arith}
 use lib.Dec.{leb, ltb}
 use lib.IntN.{ℤ}
 use borrow.Author.Tests.{lt-leb}
-use Rattle.laws.specs.Test.{Says, says-eq, says-map, says-ltb, says-leb, says-and}
+use Rattle.laws.specs.Test.{Says, says-eq, says-true, says-map, says-ltb, says-leb, says-and}
 use Rattle.span.specs.Constants.{width}
 use Rattle.rows.specs.Row.{Within}
 use Rattle.rows.specs.Table.{Table, start}
@@ -26,6 +26,10 @@ unfolding isRow
 says-row t v =
     says-map (λ h. record { inUse = h .0; sound = h .1 }) (λ h. (h .inUse, h .sound))
     (says-and (says-ltb v (t .count)) (λ _. says-sound (t .count) (t .row v)))
+
+-- a row that is known to be sound passes the test
+pub known-row : {t : Table} {v k : ℕ} → IsRow t k → v ≡ k → true ≡ isRow t v
+known-row {t} {v} {k} h e = rw e (sym (says-true (says-row t k) h))
 
 -- the number of a row fits 64 bits
 pub p-fits : {t : Table} {v : ℕ} → IsRow t v → p t v < 2 ^ 64

@@ -1,5 +1,6 @@
 // The stored answer from the compressed one: where the paths of both sides meet, and the branches from there.
 use crate::compressed::Side;
+use crate::compressed::choose;
 use crate::compressed::side_from;
 use crate::row::is_row;
 use rows::layout::DEPTH;
@@ -13,7 +14,8 @@ use span::rank;
 ghost use mathlib.Core.Path.{_≡_};
 ghost use Rattle.tree_laws.specs.StoredFromCompressed.{higher, branchAt};
 ghost use Rattle.rows.specs.Table.{depth, path};
-ghost use Rattle.query.specs.Reading.{Holds, asTable};
+ghost use Rattle.query.specs.Reading.{Holds, IsRow, asTable};
+ghost use Rattle.query.specs.PlainAnswer.{Asked};
 ghost use Rattle.query.specs.StoredAnswer.{pathRowOf, isOnRow, forked, between, join, storedFrom};
 
 // A nearest common ancestor and the branches towards both nodes; sound where every row met is, and no row sought is missing.
@@ -49,30 +51,29 @@ fn path_row(
     u
 }
 
-// The row that the path row was read off is sound.
+// The row that the path row was read off is sound; known is a sound row.
 fn is_on_row(
     fields: &[u16],
     numbers: &[u64],
     levels: &[i32],
     ancestors: &[u16],
     state: State,
+    known: u16,
     s: Side,
 ) -> bool
     requires { ⌜ Holds (state .count) (now fields) (now numbers) (now levels) ⌝ }
+    requires { ⌜ IsRow (asTable (now fields) (now numbers) (now levels) (now ancestors) state) known ⌝ }
     ensures { λ r. ⌜ r ≡ isOnRow (asTable (now (fields .entry)) (now (numbers .entry)) (now (levels .entry)) (now (ancestors .entry)) state) s ⌝ }
 {
     let w = s.below;
     if w == s.row {
         return true;
     }
-    is_row(
-        fields,
-        numbers,
-        levels,
-        ancestors,
-        state,
-        field(fields, w, PARENT),
-    )
+    let u = field(fields, w, PARENT);
+    if u == known {
+        return true;
+    }
+    is_row(fields, numbers, levels, ancestors, state, u)
 }
 
 // The higher of two rows.
@@ -124,17 +125,19 @@ pub fn forked(nca: u16, to_x: u16, to_y: u16, sound: bool) -> Fork
     }
 }
 
-// The stored answer from the compressed one, c on the side of x and k on that of y.
+// The stored answer from the compressed one, c on the side of x and k on that of y; known is a sound row.
 fn join(
     fields: &[u16],
     numbers: &[u64],
     levels: &[i32],
     ancestors: &[u16],
     state: State,
+    known: u16,
     c: Side,
     k: Side,
 ) -> Fork
     requires { ⌜ Holds (state .count) (now fields) (now numbers) (now levels) ⌝ }
+    requires { ⌜ IsRow (asTable (now fields) (now numbers) (now levels) (now ancestors) state) known ⌝ }
     ensures { λ r. ⌜ r ≡ join (asTable (now (fields .entry)) (now (numbers .entry)) (now (levels .entry)) (now (ancestors .entry)) state) c k ⌝ }
 {
     let b = path_row(fields, numbers, levels, ancestors, state, c);
@@ -142,8 +145,8 @@ fn join(
     let a = higher(fields, numbers, levels, ancestors, state, b, d);
     let to_x = branch_at(fields, numbers, levels, ancestors, state, a, b, c.below);
     let to_y = branch_at(fields, numbers, levels, ancestors, state, a, d, k.below);
-    let left = is_on_row(fields, numbers, levels, ancestors, state, c);
-    let right = is_on_row(fields, numbers, levels, ancestors, state, k);
+    let left = is_on_row(fields, numbers, levels, ancestors, state, known, c);
+    let right = is_on_row(fields, numbers, levels, ancestors, state, known, k);
     forked(a, to_x, to_y, c.sound & k.sound & left & right)
 }
 
@@ -170,6 +173,7 @@ pub fn stored_from(
     y: u16,
 ) -> Fork
     requires { ⌜ Holds (state .count) (now fields) (now numbers) (now levels) ⌝ }
+    requires { ⌜ Asked (asTable (now fields) (now numbers) (now levels) (now ancestors) state) x y ⌝ }
     ensures { λ r. ⌜ r ≡ storedFrom (asTable (now (fields .entry)) (now (numbers .entry)) (now (levels .entry)) (now (ancestors .entry)) state) px py x y ⌝ }
 {
     if x == y {
@@ -190,27 +194,31 @@ pub fn stored_from(
     }
     let d = between(px, py);
     let i = rank(d) as u16;
+    let root = state.root;
     let c = side_from(
         fields,
         numbers,
         levels,
         ancestors,
         state,
+        root,
         entry(ancestors, x, i),
         d,
         py,
         x,
     );
+    let known = choose(c.sound, c.row, root);
     let k = side_from(
         fields,
         numbers,
         levels,
         ancestors,
         state,
+        known,
         entry(ancestors, y, i),
         d,
         px,
         y,
     );
-    join(fields, numbers, levels, ancestors, state, c, k)
+    join(fields, numbers, levels, ancestors, state, known, c, k)
 }

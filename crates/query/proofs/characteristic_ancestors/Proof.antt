@@ -22,29 +22,35 @@ returns : tie.Need-returns
 returns c = question-misfit _ _ _ _ (sym (c .before .before .capacity .ensures) ∙ c .enum-told .given .1)
 
 returns-2 : tie.Need-returns-2
-returns-2 c = question-unknown-x _ _ _ _ (sym (c .before .before .before .before .capacity .ensures) ∙ c .before .before .capacity2 .given .1) (c .if1 .taken)
+returns-2 c =
+    let capacity = sym (c .before .before .before .before .capacity .ensures) ∙ c .before .before .capacity2 .given .1 in
+    question-unknown-x _ _ _ _ capacity (c .if1 .taken)
 
 returns-3 : tie.Need-returns-3
-returns-3 c = question-unknown-y _ _ _ _ (sym (c .before .before .before .before .before .capacity .ensures) ∙ c .before .before .before .capacity2 .given .1) (c .before .if1 .left) (c .if2 .taken)
+returns-3 c =
+    let capacity = sym (c .before .before .before .before .before .capacity .ensures) ∙ c .before .before .before .capacity2 .given .1 in
+    question-unknown-y _ _ _ _ capacity (c .before .if1 .left) (c .if2 .taken)
 
 is-standing-requires : tie.Need-is-standing-requires
 is-standing-requires c κs = search needs
 
 returns-4 : tie.Need-returns-4
 returns-4 c =
-    question-fallen _ _ _ _ (sym (c .before .before .before .before .before .before .before .capacity .ensures) ∙ c .before .before .before .before .before .capacity2 .given .1) (c .before .before .before .if1 .left) (c .before .before .if2 .left)
-    (sym (c .before .is-standing .ensures) ∙ not-true _ (c .if3 .taken))
+    let capacity = sym (c .before .before .before .before .before .before .before .capacity .ensures) ∙ c .before .before .before .before .before .capacity2 .given .1 in
+    let fallen = sym (c .before .is-standing .ensures) ∙ not-true _ (c .if3 .taken) in
+    question-fallen _ _ _ _ capacity (c .before .before .before .if1 .left) (c .before .before .if2 .left) fallen
 
 served-requires : tie.Need-served-requires
 served-requires c κs =
-    standing-holds (fits-capacity _ _ (sym (c .before .before .before .before .before .before .before .capacity .ensures) ∙ c .before .before .before .before .before .capacity2 .given .1))
-    (says-get (says-standing _ _) (sym (c .before .is-standing .ensures) ∙ not-false _ (c .if3 .left)))
+    let capacity = sym (c .before .before .before .before .before .before .before .capacity .ensures) ∙ c .before .before .before .before .before .capacity2 .given .1 in
+    let standing = sym (c .before .is-standing .ensures) ∙ not-false _ (c .if3 .left) in
+    standing-holds (fits-capacity _ _ capacity) (says-get (says-standing _ _) standing)
 
 returns-5 : tie.Need-returns-5
 returns-5 c =
-    c .served .ensures ∙
-    question-served _ _ _ _ (sym (c .before .before .before .before .before .before .before .before .capacity .ensures) ∙ c .before .before .before .before .before .before .capacity2 .given .1) (c .before .before .before .before .if1 .left) (c .before .before .before .if2 .left)
-    (sym (c .before .before .is-standing .ensures) ∙ not-false _ (c .before .if3 .left))
+    let capacity = sym (c .before .before .before .before .before .before .before .before .capacity .ensures) ∙ c .before .before .before .before .before .before .capacity2 .given .1 in
+    let standing = sym (c .before .before .is-standing .ensures) ∙ not-false _ (c .before .if3 .left) in
+    c .served .ensures ∙ question-served _ _ _ _ capacity (c .before .before .before .before .if1 .left) (c .before .before .before .if2 .left) standing
 
 pub characteristic-ancestors-spec : {M : Type 1} → statement M
 characteristic-ancestors-spec =

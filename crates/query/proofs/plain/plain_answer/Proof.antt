@@ -17,10 +17,10 @@ stored-from-requires : tie.Need-stored-from-requires
 stored-from-requires c κs = search needs
 
 stored-from-requires-2 : tie.Need-stored-from-requires-2
-stored-from-requires-2 c κs = search needs
+stored-from-requires-2 c κs = let h = c .before .before .before .before .before .before .before .pre in (h .0, record { left = h .1 .left; right = h .1 .root; root = h .1 .root })
 
 stored-from-requires-3 : tie.Need-stored-from-requires-3
-stored-from-requires-3 c κs = search needs
+stored-from-requires-3 c κs = let h = c .before .before .before .before .before .before .before .before .pre in (h .0, record { left = h .1 .right; right = h .1 .root; root = h .1 .root })
 
 plain-from-requires : tie.Need-plain-from-requires
 plain-from-requires c κs = search needs

@@ -1,5 +1,7 @@
--- `is_on_row`: by whether the branch is the row itself.
+-- `is_on_row`: the branch is the row itself, its parent is known, or the parent's check decides.
+use mathlib.Core.Path.{sym, _∙_}
 use borrow.Author.Tests.{eq-eqb, ne-eqb}
+use Rattle.query.specs.ReadingLaws.{known-row}
 use Rattle.query.specs.StoredAnswer.{isOnRow}
 use borrow.Author.Needs.{needs}
 use Rattle.query.proofs.stored.is_on_row.Statement.{statement}
@@ -12,14 +14,20 @@ returns c = let s = c .before .before .before .before .before .args .s in rw (eq
 field-requires : tie.Need-field-requires
 field-requires c κs = search needs
 
-is-row-requires : tie.Need-is-row-requires
-is-row-requires c κs = search needs
-
 returns-2 : tie.Need-returns-2
 unfolding isOnRow
 returns-2 c =
     let s = c .before .before .before .before .before .before .before .args .s in
-    rw (ne-eqb (s .below) (s .row) (c .before .before .if1 .left), ← c .before .field .ensures) (c .is-row .ensures)
+    rw (ne-eqb (s .below) (s .row) (c .before .before .if1 .left)) (known-row (c .before .before .before .before .before .before .before .pre .1) (sym (c .before .field .ensures) ∙ c .if2 .taken))
+
+is-row-requires : tie.Need-is-row-requires
+is-row-requires c κs = search needs
+
+returns-3 : tie.Need-returns-3
+unfolding isOnRow
+returns-3 c =
+    let s = c .before .before .before .before .before .before .before .before .args .s in
+    rw (ne-eqb (s .below) (s .row) (c .before .before .before .if1 .left), ← c .before .before .field .ensures) (c .is-row .ensures)
 
 pub is-on-row-spec : {M : Type 1} → statement M
-is-on-row-spec = tie.close (tie.spec returns field-requires is-row-requires returns-2)
+is-on-row-spec = tie.close (tie.spec returns field-requires returns-2 is-row-requires returns-3)
