@@ -1,5 +1,6 @@
 pub mod Layout
 pub mod Row
+pub mod Write
 pub mod Capacity
 pub mod CapacityLaws
 pub mod Table

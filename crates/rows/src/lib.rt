@@ -5,3 +5,4 @@ pub mod layout;
 pub mod refusal;
 pub mod row;
 pub mod state;
+pub mod write;

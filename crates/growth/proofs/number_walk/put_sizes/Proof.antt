@@ -1,0 +1,26 @@
+-- `put_sizes` stores three fields.
+use Rattle.growth.specs.NumberWalk.{placedRow}
+use borrow.Author.Needs.{needs}
+use Rattle.growth.proofs.number_walk.put_sizes.Statement.{statement}
+use Rattle.growth.proofs.number_walk.put_sizes.Tie as tie
+
+put-field-requires : tie.Need-put-field-requires
+put-field-requires c κs = search needs
+
+put-field-requires-2 : tie.Need-put-field-requires-2
+put-field-requires-2 c κs = search needs
+
+put-field-requires-3 : tie.Need-put-field-requires-3
+put-field-requires-3 c κs = search needs
+
+same-length : tie.Need-same-length
+same-length c = search needs
+
+returns : tie.Need-returns
+unfolding placedRow
+returns c = rw (c .before .before .put-field3 .ensures, c .before .before .before .before .before .before .put-field2 .ensures, c .before .before .before .before .before .before .before .before .before .before .put-field .ensures)
+
+pub put-sizes-spec : {M : Type 1} → statement M
+put-sizes-spec =
+    tie.close
+    (tie.spec put-field-requires put-field-requires-2 put-field-requires-3 same-length returns)

@@ -1,0 +1,98 @@
+-- `plan_root`: the refusals in their order.
+use mir.Val.{toZ, ofZ}
+use mathlib.Core.Path.{_≡_}
+use Rattle.growth.specs.PlanLaws.{held, root-misfit, root-scratch, root-full, root-fallen, root-first, root-out, root-row}
+use Rattle.rows.specs.Row.{partsOf}
+use borrow.Author.Tests.{not-true, not-false}
+use mir.ValLaws.{toZ-ofZ}
+use mir.Syntax.{w32}
+use mathlib.Core.Path.{_∙_, sym}
+use borrow.Author.Needs.{needs}
+use Rattle.growth.proofs.plan.plan_root.Statement.{statement}
+use Rattle.growth.proofs.plan.plan_root.Tie as tie
+
+capacity-requires : tie.Need-capacity-requires
+capacity-requires c κs = search needs
+
+enum-known-cap : tie.Need-enum-known-cap
+enum-known-cap c = search needs
+
+enum-told : tie.Need-enum-told
+enum-told c = search needs
+
+returns : tie.Need-returns
+returns c = let a = c .before .before .before .before .before .before .before .args in root-misfit (partsOf (a .fields .now) (a .numbers .now) (a .levels .now) (a .ancestors .now)) _ (a .state) (sym (c .enum-told .given .1) ∙ c .before .before .capacity .ensures)
+
+returns-2 : tie.Need-returns-2
+returns-2 c = let a = c .before .before .before .before .before .before .before .before .before .args in root-scratch (partsOf (a .fields .now) (a .numbers .now) (a .levels .now) (a .ancestors .now)) _ (a .state) _ (sym (c .before .before .cap .given .1) ∙ c .before .before .before .before .capacity .ensures) (c .if1 .taken)
+
+cast-if2 : tie.Need-cast-if2
+cast-if2 c = search needs
+
+returns-3 : tie.Need-returns-3
+returns-3 c = let a = c .before .before .before .before .before .before .before .before .before .before .before .args in root-full (partsOf (a .fields .now) (a .numbers .now) (a .levels .now) (a .ancestors .now)) _ (a .state) _ (sym (c .before .before .before .before .cap .given .1) ∙ c .before .before .before .before .before .before .capacity .ensures) (c .before .before .if1 .left) (c .if2 .taken)
+
+is-standing-requires : tie.Need-is-standing-requires
+is-standing-requires c κs = search needs
+
+returns-4 : tie.Need-returns-4
+returns-4 c = let a = c .before .before .before .before .before .before .before .before .before .before .before .before .before .args in root-fallen (partsOf (a .fields .now) (a .numbers .now) (a .levels .now) (a .ancestors .now)) _ (a .state) _ (sym (c .before .before .before .before .before .before .cap .given .1) ∙ c .before .before .before .before .before .before .before .before .capacity .ensures) (c .before .before .before .before .if1 .left) (c .before .before .if2 .left) (sym (c .before .is-standing .ensures) ∙ not-true _ (c .if3 .taken))
+
+first-root-requires : tie.Need-first-root-requires
+first-root-requires c κs = search needs
+
+returns-5 : tie.Need-returns-5
+returns-5 c = let a = c .before .before .before .before .before .before .before .before .before .before .before .before .before .before .before .before .args in
+    rw (c .first-root .ensures) (root-first (partsOf (a .fields .now) (a .numbers .now) (a .levels .now) (a .ancestors .now)) _ (a .state) _ (sym (c .before .before .before .before .before .before .before .before .before .cap .given .1) ∙ c .before .before .before .before .before .before .before .before .before .before .before .capacity .ensures) (c .before .before .before .before .before .before .before .if1 .left) (c .before .before .before .before .before .if2 .left) (sym (c .before .before .before .before .is-standing .ensures) ∙ not-false _ (c .before .before .before .if3 .left)) (c .before .if4 .taken))
+
+level-requires : tie.Need-level-requires
+level-requires c κs = search needs
+
+root-level-requires : tie.Need-root-level-requires
+root-level-requires c κs = search needs
+
+enum-known-at : tie.Need-enum-known-at
+enum-known-at c = search needs
+
+enum-told-2 : tie.Need-enum-told-2
+enum-told-2 c = search needs
+
+returns-6 : tie.Need-returns-6
+returns-6 c = let a = c .before .before .before .before .before .before .before .before .before .before .before .before .before .before .before .before .before .before .before .args in
+    let read : toZ w32 (ofZ w32 (c .before .before .before .level .result)) ≡ c .before .before .before .level .result = toZ-ofZ w32 _ (record { sfits = c .before .before .before .level .ok }) in
+    root-out (partsOf (a .fields .now) (a .numbers .now) (a .levels .now) (a .ancestors .now)) _ (a .state) _ (sym (c .before .before .before .before .before .before .before .before .before .before .before .before .cap .given .1) ∙ c .before .before .before .before .before .before .before .before .before .before .before .before .before .before .capacity .ensures) (c .before .before .before .before .before .before .before .before .before .before .if1 .left) (c .before .before .before .before .before .before .before .before .if2 .left) (sym (c .before .before .before .before .before .before .before .is-standing .ensures) ∙ not-false _ (c .before .before .before .before .before .before .if3 .left)) (c .before .before .before .before .if4 .left)
+    (rw (read, c .before .before .before .level .ensures) at (sym (c .enum-told2 .given .1) ∙ c .before .before .root-level .ensures))
+
+plan-row-requires : tie.Need-plan-row-requires
+plan-row-requires c κs = let a = c .before .before .before .before .before .before .before .before .before .before .before .before .before .before .before .before .before .before .before .before .args in held (partsOf (a .fields .now) (a .numbers .now) (a .levels .now) (a .ancestors .now)) _ (a .state) (sym (c .before .before .before .before .before .before .before .before .before .before .before .before .before .cap .given .1) ∙ c .before .before .before .before .before .before .before .before .before .before .before .before .before .before .before .capacity .ensures) (sym (c .before .before .before .before .before .before .before .before .is-standing .ensures) ∙ not-false _ (c .before .before .before .before .before .before .before .if3 .left))
+
+returns-7 : tie.Need-returns-7
+returns-7 c = let a = c .before .before .before .before .before .before .before .before .before .before .before .before .before .before .before .before .before .before .before .before .before .args in
+    let read : toZ w32 (ofZ w32 (c .before .before .before .before .before .level .result)) ≡ c .before .before .before .before .before .level .result = toZ-ofZ w32 _ (record { sfits = c .before .before .before .before .before .level .ok }) in
+    let kept : toZ w32 (ofZ w32 (c .before .before .at .given .0 .0)) ≡ c .before .before .at .given .0 .0 = search needs in
+    rw kept at (c .plan-row .ensures) ∙
+    root-row (partsOf (a .fields .now) (a .numbers .now) (a .levels .now) (a .ancestors .now)) _ (a .state) _ (sym (c .before .before .before .before .before .before .before .before .before .before .before .before .before .before .cap .given .1) ∙ c .before .before .before .before .before .before .before .before .before .before .before .before .before .before .before .before .capacity .ensures) (c .before .before .before .before .before .before .before .before .before .before .before .before .if1 .left) (c .before .before .before .before .before .before .before .before .before .before .if2 .left) (sym (c .before .before .before .before .before .before .before .before .before .is-standing .ensures) ∙ not-false _ (c .before .before .before .before .before .before .before .before .if3 .left)) (c .before .before .before .before .before .before .if4 .left)
+    (c .before .before .at .given .0 .0) (rw (read, c .before .before .before .before .before .level .ensures) at (sym (c .before .before .at .given .1) ∙ c .before .before .before .before .root-level .ensures))
+
+pub plan-root-spec : {M : Type 1} → statement M
+plan-root-spec =
+    tie.close
+    (tie.spec
+    capacity-requires
+    enum-known-cap
+    enum-told
+    returns
+    returns-2
+    cast-if2
+    returns-3
+    is-standing-requires
+    returns-4
+    first-root-requires
+    returns-5
+    level-requires
+    root-level-requires
+    enum-known-at
+    enum-told-2
+    returns-6
+    plan-row-requires
+    returns-7)

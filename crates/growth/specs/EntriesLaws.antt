@@ -1,0 +1,141 @@
+-- The entries as the code finds them: from one index on, the row itself in place of none.
+use mathlib.Core.Path.{_≡_, refl, ap, sym, _∙_}
+use mathlib.Core.Bool.{Bool, true, false}
+use mathlib.Core.List.{List, [], _∷_, _++_}
+use Prim.Native.Nat.{ℕ, zero, suc, _+_, _-_, _*_, _≤_, _<_}
+use native.Mathlib.Nat.{sub-zero}
+use native.Mathlib.Decide.{decLe, decLt}
+use native.Mathlib.Omega.{arith}
+use lib.Dec.{leb, ltb, eqb, leb→le}
+use lib.ListN.{length, getD, set, take, drop, replicate, length-take, length-drop, length-replicate}
+use borrow.Author.Tests.{le-leb, lt-leb, lt-ltb, le-ltb, eq-eqb, ne-eqb, eqb-true}
+use Rattle.laws.specs.Test.{pick}
+use Rattle.tree_laws.specs.Ancestor.{none}
+use Rattle.span.specs.Constants.{limit, over}
+use Rattle.span.specs.Numbers.{reachOf, capped}
+use Rattle.span.specs.NumberLaws.{capped-within, capped-past}
+use Rattle.span.specs.Power.{power, listed}
+use Rattle.span.specs.PowerLaws.{power-le, power-pos}
+use Rattle.span.specs.Rank.{rankOf, rankTo}
+use Rattle.span.specs.RankLaws.{rank-reach, rank-reached, limit-listed}
+use Rattle.rows.specs.Layout.{entryStride}
+use Rattle.growth.specs.Entries.{entriesFrom, aboveOf, withEntries, ownFrom, ownedFrom}
+
+-- one turn of the loop -----------------------------------------------------------
+
+pub own-on : (x i : ℕ) (l : List ℕ) → i < length l → ownedFrom x i l ≡ ownedFrom x (suc i) (set l i (pick (eqb (getD l i 0) none) x (getD l i 0)))
+unfolding ownedFrom
+own-on x i [] h = absurd (omega arith)
+own-on x zero (e ∷ es) h = refl
+own-on x (suc i) (e ∷ es) h = ap (λ (r : List ℕ). e ∷ r) (own-on x i es (omega arith))
+
+pub own-end : (x i : ℕ) (l : List ℕ) → length l ≤ i → ownedFrom x i l ≡ l
+unfolding ownedFrom
+own-end x i [] h = refl
+own-end x zero (e ∷ es) h = absurd (omega arith)
+own-end x (suc i) (e ∷ es) h = ap (λ (r : List ℕ). e ∷ r) (own-end x i es (omega arith))
+
+pub length-owned : (x i : ℕ) (l : List ℕ) → length (ownedFrom x i l) ≡ length l
+unfolding ownedFrom
+length-owned x i [] = refl
+length-owned x zero (e ∷ es) = ap suc (length-owned x zero es)
+length-owned x (suc i) (e ∷ es) = ap suc (length-owned x i es)
+
+-- the index from which a row stands for itself -----------------------------------
+
+rank-to-le : (n d : ℕ) → rankTo n d ≤ n
+unfolding rankTo
+rank-to-le zero d = omega arith
+rank-to-le (suc n) d = go (leb (power (suc n)) d) (rank-to-le n d)
+  where
+    go : (b : Bool) → rankTo n d ≤ n → pick b (suc n) (rankTo n d) ≤ suc n
+    go true h = omega arith
+    go false h = omega arith
+
+pub rank-listed : (d : ℕ) → rankOf d < listed
+unfolding rankOf
+rank-listed d = omega (arith, rank-to-le (listed - 1) d)
+
+over-listed : over < power listed
+unfolding power
+over-listed = leb→le (suc over) (power listed) tt
+
+last-limit : power 121 ≤ limit
+unfolding power
+last-limit = leb→le (power 121) limit tt
+
+own-rank : (d i : ℕ) → 1 ≤ d → d < power listed → leb (rankOf d + 1) i ≡ ltb d (power i)
+own-rank d i a b = elim (decLt d (power i)) [
+  | yes l ↦ rw (lt-ltb d (power i) l, le-leb (rankOf d + 1) i (past l))
+  | no n ↦ let r : i ≤ rankOf d = rank-reach d i a b (omega arith) in rw (le-ltb d (power i) (omega arith), lt-leb (rankOf d + 1) i (omega arith))
+]
+  where
+    past : d < power i → rankOf d + 1 ≤ i
+    past l = elim (decLe (rankOf d + 1) i) [ yes k ↦ k | no k ↦ absurd (omega (arith, rank-reached d i a b (omega arith))) ]
+
+-- a row stands for itself exactly where its reach lies below the power
+pub own-index : (setSize i : ℕ) → i < entryStride → leb (ownFrom setSize) i ≡ ltb (reachOf setSize) (power i)
+unfolding ownFrom
+own-index setSize i h = elim (decLe (reachOf setSize) limit) [
+  | yes l ↦ rw (capped-within (reachOf setSize) l) (within (reachOf setSize) l)
+  | no n ↦
+      let below : power i ≤ limit = omega (arith, power-le i 121 (omega arith), last-limit) in
+      rw (capped-past (reachOf setSize) (omega arith), le-ltb (reachOf setSize) (power i) (omega arith))
+      (own-rank over i (omega arith) over-listed ∙ le-ltb over (power i) (omega arith))
+]
+  where
+    within : (r : ℕ) → r ≤ limit → leb (pick (eqb r 0) 0 (rankOf r + 1)) i ≡ ltb r (power i)
+    within zero l = le-leb 0 i (omega arith) ∙ sym (lt-ltb 0 (power i) (power-pos i))
+    within (suc r) l = rw (ne-eqb (suc r) 0 (λ e. omega arith)) (own-rank (suc r) i (omega arith) (limit-listed l))
+
+none-kept : (e : ℕ) → pick (eqb e none) none e ≡ e
+none-kept e = go (eqb e none) refl
+  where
+    go : (b : Bool) → eqb e none ≡ b → pick b none e ≡ e
+    go true q = sym (eqb-true e none q)
+    go false q = refl
+
+entries-owned-from : (x setSize : ℕ) (i : ℕ) (l : List ℕ) → i + length l ≤ entryStride → entriesFrom x setSize i l ≡ ownedFrom x (ownFrom setSize - i) l
+unfolding entriesFrom ownedFrom
+entries-owned-from x setSize i [] h = refl
+entries-owned-from x setSize i (e ∷ es) h = elim (decLe (ownFrom setSize) i) [
+  | yes y ↦
+      let z : ownFrom setSize - i ≡ 0 = omega arith in
+      let z2 : ownFrom setSize - suc i ≡ 0 = omega arith in
+      let t : ltb (reachOf setSize) (power i) ≡ true = sym (own-index setSize i (omega arith)) ∙ le-leb (ownFrom setSize) i y in
+      rw (z, t) (ap (λ (r : List ℕ). pick (eqb e none) x e ∷ r) (entries-owned-from x setSize (suc i) es (omega arith) ∙ rw z2))
+  | no n ↦
+      let z : ownFrom setSize - i ≡ suc (ownFrom setSize - suc i) = omega arith in
+      let t : ltb (reachOf setSize) (power i) ≡ false = sym (own-index setSize i (omega arith)) ∙ lt-leb (ownFrom setSize) i (omega arith) in
+      rw (z, t, none-kept e) (ap (λ (r : List ℕ). e ∷ r) (entries-owned-from x setSize (suc i) es (omega arith)))
+]
+
+-- the entries of a row, by one index
+pub entries-owned : (x setSize : ℕ) (l : List ℕ) → length l ≤ entryStride → entriesFrom x setSize 0 l ≡ ownedFrom x (ownFrom setSize) l
+entries-owned x setSize l h = rw sub-zero at (entries-owned-from x setSize 0 l (omega arith))
+
+-- a row of the table -----------------------------------------------------------
+
+pub above-none : (a : List ℕ) (u : ℕ) → length a < u * entryStride + entryStride → aboveOf a u ≡ replicate entryStride none
+unfolding aboveOf
+above-none a u h = rw (lt-ltb (length a) (u * entryStride + entryStride) h)
+
+pub above-row : (a : List ℕ) (u : ℕ) → u * entryStride + entryStride ≤ length a → aboveOf a u ≡ take entryStride (drop (u * entryStride) a)
+unfolding aboveOf
+above-row a u h = rw (le-ltb (length a) (u * entryStride + entryStride) h)
+
+pub length-above : (a : List ℕ) (u : ℕ) → length (aboveOf a u) ≡ entryStride
+length-above a u = elim (decLe (u * entryStride + entryStride) (length a)) [
+  | yes l ↦ rw (above-row a u l) (simp (length-take, length-drop) (omega arith))
+  | no n ↦ rw (above-none a u (omega arith), length-replicate)
+]
+
+pub entries-nowhere : (a : List ℕ) (x u setSize : ℕ) → length a < x * entryStride + entryStride → withEntries a x u setSize ≡ a
+unfolding withEntries
+entries-nowhere a x u setSize h = rw (lt-ltb (length a) (x * entryStride + entryStride) h)
+
+pub entries-row : (a : List ℕ) (x u setSize : ℕ) → x * entryStride + entryStride ≤ length a
+    → take (x * entryStride) a ++ (ownedFrom x (ownFrom setSize) (aboveOf a u) ++ drop entryStride (drop (x * entryStride) a)) ≡ withEntries a x u setSize
+unfolding withEntries
+entries-row a x u setSize h =
+    rw (le-ltb (length a) (x * entryStride + entryStride) h, entries-owned x setSize (aboveOf a u) (omega (arith, length-above a u)))
