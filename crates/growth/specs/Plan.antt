@@ -6,7 +6,7 @@ use lib.Dec.{eqb, leb, ltb}
 use lib.IntN.{ℤ, pos, _+ℤ_, _-ℤ_}
 use Rattle.laws.specs.Test.{pick}
 use Rattle.tree_laws.specs.Ancestor.{none}
-use Rattle.span.specs.Numbers.{fits}
+use Rattle.span.specs.Numbers.{withinLimit}
 use Rattle.rows.specs.declared.refusal.Refusal.{Refusal}
 use Rattle.rows.specs.declared.refusal.Refusal.the-variants.{UnknownNode, Full, Misfit, Corrupt, BadLabel}
 use Rattle.rows.specs.declared.state.State.{State}
@@ -52,7 +52,7 @@ headOf f top leaf upper = pick (eqb top none) (record { row = leaf; upper = uppe
 
 -- the head is row 0 or has an upper row, and its span lies within the limit
 unfoldable pub isSeated : List ℕ → Head → Bool
-isSeated m h = (eqb (h .row) 0 || not (eqb (h .upper) none)) && fits (numberAt m (h .upper) nextFreePlace) (h .rows)
+isSeated m h = (eqb (h .row) 0 || not (eqb (h .upper) none)) && withinLimit (numberAt m (h .upper) nextFreePlace) (h .rows)
 
 -- the walk below a head that is not the leaf meets as many rows as its size says
 unfoldable pub isWhole : List ℕ → List ℕ → List ℤ → ℕ → Leaf → Head → Bool

@@ -116,7 +116,7 @@ fn head_of(fields: &[u16], top: u16, leaf: u16, upper: u16) -> Head
 fn is_seated(numbers: &[u64], head: Head) -> bool
     ensures { λ r. ⌜ r ≡ isSeated (now (numbers .entry)) head ⌝ }
 {
-    let fits = Span::new(number(numbers, head.upper, NEXT_FREE), head.rows).fits();
+    let fits = Span::new(number(numbers, head.upper, NEXT_FREE), head.rows).within_limit();
     ((head.row == 0) | (head.upper != NONE)) & fits
 }
 
