@@ -17,3 +17,6 @@ pub mod Entries
 pub mod EntriesLaws
 pub mod NumberWalk
 pub mod NumberWalkLaws
+pub mod Store
+pub mod Growth
+pub mod GrowthLaws
