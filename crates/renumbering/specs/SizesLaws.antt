@@ -85,7 +85,7 @@ module _ (x : ℕ) (s : Sizing) where
   unfolding counted
   counted-path y = refl
 
-  closed-size : closed x s .size x ≡ s .met - s .size x
+  pub closed-size : closed x s .size x ≡ s .met - s .size x
   unfolding closed
   closed-size = kept-only x (counted x s) .size x ∙ counted-size
 
@@ -97,7 +97,7 @@ module _ (x : ℕ) (s : Sizing) where
   unfolding closed
   closed-path-other y d = kept-only x (counted x s) .path y d ∙ counted-path y
 
-  closed-met : closed x s .met ≡ s .met
+  pub closed-met : closed x s .met ≡ s .met
   unfolding closed counted
   closed-met = kept-only x (counted x s) .met
 
@@ -302,7 +302,7 @@ module _ (k : Links) {rank : ℕ → ℕ} {n : ℕ} (t : Forest (k .parent) rank
 
 -- How many rows the walk has met
 
-left-met : (parent : ℕ → ℕ) (x : ℕ) (s : Sizing) → offered (parent x) x (closed x s) .met ≡ s .met
+pub left-met : (parent : ℕ → ℕ) (x : ℕ) (s : Sizing) → offered (parent x) x (closed x s) .met ≡ s .met
 left-met parent x s = offered-only (parent x) x (closed x s) .met ∙ closed-met x s
 
 sweep-met : (parent : ℕ → ℕ) (f : Kin) (s : Sizing) → sweep (sizeVisit parent) f s .met ≡ s .met + count f
