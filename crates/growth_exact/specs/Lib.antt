@@ -1,3 +1,5 @@
 pub mod Columns
 pub mod Places
 pub mod SizeWalkExact
+pub mod EntryColumns
+pub mod NumberColumns
