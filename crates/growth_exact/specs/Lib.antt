@@ -3,3 +3,4 @@ pub mod Places
 pub mod SizeWalkExact
 pub mod EntryColumns
 pub mod NumberColumns
+pub mod NumberWalkExact
