@@ -4,3 +4,4 @@ pub mod SizeWalkExact
 pub mod EntryColumns
 pub mod NumberColumns
 pub mod NumberWalkExact
+pub mod RenumberExact
