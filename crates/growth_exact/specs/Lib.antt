@@ -5,3 +5,5 @@ pub mod EntryColumns
 pub mod NumberColumns
 pub mod NumberWalkExact
 pub mod RenumberExact
+pub mod RaiseExact
+pub mod TopExact
