@@ -7,3 +7,4 @@ pub mod NumberWalkExact
 pub mod RenumberExact
 pub mod RaiseExact
 pub mod TopExact
+pub mod AttachExact

@@ -21,7 +21,7 @@ use Rattle.renumbering.specs.Column.{put, put-same, put-other}
 use Rattle.renumbering.specs.Numbers.{Numbers, entryOf, isReachBelow, placed}
 use Rattle.growth.specs.Entries.{entryFrom, withEntries}
 use Rattle.growth.specs.NumberWalk.{Written, written, spanAt, placedRow, started, rowNumbered}
-use Rattle.growth_exact.specs.Columns.{Holds, holds-set, past-set, set-same, set-other}
+use Rattle.growth_exact.specs.Columns.{Holds, holds-set, set-same, set-link, set-other}
 use Rattle.growth_exact.specs.EntryColumns.{above-entry, entries-hold, entries-own, entries-other}
 
 -- the parts w hold the columns s, and all else of the fields b
@@ -58,12 +58,7 @@ module _ {c : ℕ} {b : List ℕ} {w : Written} {s : Numbers} (n : Numbered c b 
 
   -- the next free number of u, if any
   free-above : (y : ℕ) → y ≢ none → numberAt (withNumber (w .numbers) u nextFreePlace (endOf a k)) y nextFreePlace ≡ put (s .nextFree) u (endOf a k) y
-  free-above y d = go o
-    where
-      go : (u ≡ none) ⊎ (u < c) → numberAt (withNumber (w .numbers) u nextFreePlace (endOf a k)) y nextFreePlace ≡ put (s .nextFree) u (endOf a k) y
-      go (inl e) = rw (e, past-set (n .numbers) none nextFreePlace (endOf a k) (omega (arith, n .numbers .most)))
-          (n .nextFree y d ∙ sym (put-other (s .nextFree) none (endOf a k) y d))
-      go (inr m) = set-same (n .numbers) u nextFreePlace (endOf a k) m (omega arith) (s .nextFree) y (n .nextFree y d)
+  free-above y d = set-link (n .numbers) u nextFreePlace (endOf a k) o (omega arith) (s .nextFree) y d (n .nextFree y d)
 
   abbrev m₁ : List ℕ
   m₁ = withNumber (w .numbers) u nextFreePlace (endOf a k)
