@@ -8,3 +8,4 @@ pub mod RenumberExact
 pub mod RaiseExact
 pub mod TopExact
 pub mod AttachExact
+pub mod InsertExact
