@@ -224,7 +224,7 @@ module _ {c : ℕ} (p : Parts) (n root : ℕ) (fit : Fits c p) (r : Rules c (tab
       link : parent between n ≢ none → parent t v ≢ none → path between (parent t v) ≡ path t (parent t v)
       link d i = kept (parent t v) pathPlace (stored was .inside v (v-in (some d)) i) quietPath
 
-  joins : Joins (upper t) (upper between) n n u
+  pub joins : Joins (upper t) (upper between) n n u
   joins = record { same = λ x l. kept x upperPlace l quietUpper; fresh = omega arith; some = λ e. omega (arith, fit .most); under = attached-is .upperNew }
 
   pub inserted : Inserted t between g

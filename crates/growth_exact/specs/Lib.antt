@@ -9,3 +9,4 @@ pub mod RaiseExact
 pub mod TopExact
 pub mod AttachExact
 pub mod InsertExact
+pub mod HeadExact
