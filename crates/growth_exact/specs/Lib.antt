@@ -10,3 +10,4 @@ pub mod TopExact
 pub mod AttachExact
 pub mod InsertExact
 pub mod HeadExact
+pub mod CheckWalkExact
