@@ -11,3 +11,6 @@ pub mod AttachExact
 pub mod InsertExact
 pub mod HeadExact
 pub mod CheckWalkExact
+pub mod StoreExact
+pub mod PlanExact
+pub mod GrowthExact
