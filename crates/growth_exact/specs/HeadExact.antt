@@ -213,6 +213,6 @@ module _ {c : ℕ} (p : Parts) (n root : ℕ) (fit : Fits c p) (r : Rules c (tab
         let l : headTop < n = anc-in was u-in (top-over d) in
         let s = chain-due headTop (top-over d) in
         rw (ne-eqb headTop none d, z) (same-head headTop (pick (eqb headTop 0) none (upper t headTop)) (oneMore (size t headTop)) (upper m headTop) (rows m headTop)
-            (no-upper headTop l ∙ sym (in-m .old headTop l .sameUpper))
-            (more-one (size t headTop) (omega (arith, size-most r (fit .most) headTop l, fit .most)) ∙ sym (s .0) ∙ sym (rw z at rows-head)))
+        (no-upper headTop l ∙ sym (in-m .old headTop l .sameUpper))
+        (more-one (size t headTop) (omega (arith, size-most r (fit .most) headTop l, fit .most)) ∙ sym (s .0) ∙ sym (rw z at rows-head)))
   ]

@@ -115,7 +115,7 @@ module _ {c : ℕ} (p : Parts) (n root : ℕ) (fit : Fits c p) (r : Rules c (tab
       let o = exactly .renumbered in
       let held : Holds numberStride c (p .numbers) = record { most = fit .most; long = fit .numbers } in
       let z : setSize tableAfter h ≡ rows m h = growth-head r (fit .most) room after-grown .set h head-in here
-          ∙ sym (growth-head r (fit .most) room after-grown .number) ∙ rows-kept in
+      ∙ sym (growth-head r (fit .most) room after-grown .number) ∙ rows-kept in
       let s : start tableAfter h ≡ numberAt (p .numbers) (upper m h) nextFreePlace = elim (ℕ-discrete (upper m h) none) [
         | yes e ↦ o .startRoot e ∙ sym (rw e (past held none nextFreePlace (omega (arith, fit .most))))
         | no d ↦ o .startHead d

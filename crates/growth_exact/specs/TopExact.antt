@@ -45,10 +45,10 @@ module _ {up rank : ℕ → ℕ} {n : ℕ} (t : Forest up rank n) (f m : List �
   step : (fuel : ℕ) → Finds fuel → Finds (suc fuel)
   step fuel more u top i r = elim (ℕ-discrete (up u) none) [
     | yes e ↦ record {
-        row = highestFrom (outgrownAt f) none u;
-        is = highest-root t (outgrownAt f) says u i e;
-        found = on fuel u top i ∙ top-stop f m l n (up u) (pick (outgrownAt f u) u top) fuel e ∙ ap At (itself u top i (outgrownAt f u));
-      }
+      row = highestFrom (outgrownAt f) none u;
+      is = highest-root t (outgrownAt f) says u i e;
+      found = on fuel u top i ∙ top-stop f m l n (up u) (pick (outgrownAt f u) u top) fuel e ∙ ap At (itself u top i (outgrownAt f u));
+    }
     | no d ↦
         let k = more (up u) (pick (outgrownAt f u) u top) (t .inside u i d) (omega (arith, t .falls u i d)) in
         record {
