@@ -1,0 +1,16 @@
+pub mod Columns
+pub mod Places
+pub mod SizeWalkExact
+pub mod EntryColumns
+pub mod NumberColumns
+pub mod NumberWalkExact
+pub mod RenumberExact
+pub mod RaiseExact
+pub mod TopExact
+pub mod AttachExact
+pub mod InsertExact
+pub mod HeadExact
+pub mod CheckWalkExact
+pub mod StoreExact
+pub mod PlanExact
+pub mod GrowthExact
