@@ -19,7 +19,7 @@ use Rattle.tree_laws.specs.WalkLaws.{turn-up, turn-down}
 use Rattle.rows.specs.Table.{Table, parent}
 use Rattle.rows.specs.StoredTree.{Child, FirstFrom, absent, least}
 use Rattle.growth_laws.specs.Renumbered.{rows}
-use Rattle.renumbering.specs.SizesLaws.{head-not-in}
+use Rattle.renumbering.specs.SizesSwept.{head-not-in}
 use Rattle.renumbering.specs.Loop.{turns, Through, empty, around, Turning, Came}
 use Rattle.renumbering.specs.LoopLaws.{turns-add, loop-forest}
 use Rattle.renumbering.specs.Renumbering.{linksOf, Renumberable}

@@ -22,7 +22,7 @@ use Rattle.growth_laws.specs.Renumbered.{Below, rows}
 use Rattle.growth_laws.specs.Chains.{size-count}
 use Rattle.growth_laws.specs.Trees.{uppers}
 use Rattle.renumbering.specs.Sizes.{Sizing}
-use Rattle.renumbering.specs.SizesLaws.{Sized}
+use Rattle.renumbering.specs.SizesSwept.{Sized}
 use Rattle.renumbering.specs.Numbers.{Numbers, headStart, headPlaced, sizeOf, numberedBelow}
 use Rattle.renumbering.specs.Carried.{Carried, carriedVisit, Coming}
 use Rattle.renumbering.specs.Loop.{turns, Turning}

@@ -26,7 +26,7 @@ use Rattle.rows.specs.Spans.{end}
 use Rattle.rows.specs.Table.{Table, tableOf, parent, depth, upper}
 use Rattle.growth_laws.specs.Renumbered.{Below, rows, Renumbered}
 use Rattle.renumbering.specs.Sizes.{Sizing}
-use Rattle.renumbering.specs.SizesLaws.{Sized}
+use Rattle.renumbering.specs.SizesSwept.{Sized}
 use Rattle.renumbering.specs.Numbers.{Numbers}
 use Rattle.renumbering.specs.Renumbering.{linksOf, sizesOf, numbersOf, withColumns, Renumberable}
 use Rattle.renumbering.specs.WalkedLaws.{lastNumbers, last-renumbered}
