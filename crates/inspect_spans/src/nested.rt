@@ -12,11 +12,12 @@ use span::Span;
 use span::part;
 ghost use mathlib.Core.Bool.{_&&_};
 ghost use mathlib.Core.Path.{_≡_};
-ghost use Prim.Native.Nat.{ℕ, _+_, _-_, _*_, _≤_, _<_};
+ghost use Prim.Native.Nat.{_+_, _-_, _*_, _≤_, _<_};
 ghost use lib.Dec.{leb};
 ghost use lib.ListN.{length};
 ghost use Rattle.laws.specs.Fourth.{fourth};
 ghost use Rattle.laws.specs.Test.{allTo};
+ghost use Rattle.span.specs.Numbers.{endOf};
 ghost use Rattle.rows.specs.Spans.{p};
 ghost use Rattle.rows.specs.Table.{nextFree};
 ghost use Rattle.inspect_laws.specs.Apart.{isApartNext};
@@ -38,6 +39,13 @@ fn reaches(start: u64, set_size: u16, parts: u64, most: u64) -> bool
     part(set_size) <= (most - start) / parts
 }
 
+// The span of this start and set size ends at the number given or before.
+fn ends_by(start: u64, set_size: u16, most: u64) -> bool
+    ensures { λ r. ⌜ r ≡ leb (endOf start «set_size») most ⌝ }
+{
+    reaches(start, set_size, Span::WIDTH, most)
+}
+
 // The span of row x lies between p and next free of its compressed parent.
 fn is_inside(fields: &[u16], numbers: &[u64], x: u16) -> bool
     ensures { λ r. ⌜ r ≡ isInside (spanTable (now (fields .entry)) (now (numbers .entry)) 0) x ⌝ }
@@ -53,10 +61,9 @@ fn is_inside(fields: &[u16], numbers: &[u64], x: u16) -> bool
         1,
         start,
     );
-    let high = reaches(
+    let high = ends_by(
         start,
         field(fields, x, SET_SIZE),
-        5,
         number(numbers, u, NEXT_FREE),
     );
     low & high
@@ -72,7 +79,7 @@ fn has_room(fields: &[u16], numbers: &[u64], x: u16) -> bool
     if free == 0 {
         return true;
     }
-    !reaches(start, set, 4, free - 1)
+    !reaches(start, set, Span::WIDTH - 1, free - 1)
 }
 
 fn is_nested(fields: &[u16], numbers: &[u64], x: u16) -> bool
@@ -106,10 +113,9 @@ fn is_apart(fields: &[u16], numbers: &[u64], v: u16, w: u16) -> bool
     if u != field(fields, w, UPPER) {
         return true;
     }
-    reaches(
+    ends_by(
         number(numbers, v, START),
         field(fields, v, SET_SIZE),
-        5,
         number(numbers, w, START),
     )
 }
@@ -149,11 +155,16 @@ fn used(fields: &[u16], numbers: &[u64], x: u16) -> u64
     gone - own
 }
 
-// How much the fourth powers of the compressed children must come to: 671 of 6,480 parts, rounded up.
+// The numbers used come to RIGHT of LEFT parts of the compressed children's fourth powers at most.
+const LEFT: u64 = 671;
+
+const RIGHT: u64 = 6480;
+
+// How much the fourth powers of the compressed children must come to, rounded up.
 fn need(used: u64) -> u64
     ensures { λ r. ⌜ r ≡ needOf used ⌝ }
 {
-    used / 6480 * 671 + (used % 6480 * 671 + 6479) / 6480
+    used / RIGHT * LEFT + (used % RIGHT * LEFT + (RIGHT - 1)) / RIGHT
 }
 
 // a less b, or 0.

@@ -1,7 +1,7 @@
 // The scratch: one number to a row.
 use rows::row::field;
 ghost use mathlib.Core.Path.{_≡_};
-ghost use Prim.Native.Nat.{ℕ, _<_};
+ghost use Prim.Native.Nat.{_<_};
 ghost use lib.Dec.{eqb};
 ghost use lib.ListN.{getD, length, replicate, set};
 ghost use Rattle.laws.specs.Test.{allTo};

@@ -15,13 +15,11 @@ use rows::row::level;
 use rows::state::State;
 use rows::state::is_standing;
 ghost use mathlib.Core.Path.{_≡_};
-ghost use mathlib.Core.Logic.{_≢_};
-ghost use Prim.Native.Nat.{ℕ, _<_, _≤_};
+ghost use Prim.Native.Nat.{_<_, _≤_};
 ghost use mathlib.Core.Bool.{_&&_};
-ghost use lib.Dec.{eqb};
 ghost use lib.IntN.{pos, _-ℤ_};
-ghost use lib.ListN.{getD, length};
-ghost use Rattle.inspect_laws.specs.Recorded.{isParent, isDepth, isLevelOn, isLabelOn, isNext, firstFrom, lastBelow, areLinks, areParents, eqZ, isRecorded};
+ghost use lib.ListN.{length};
+ghost use Rattle.inspect_laws.specs.Recorded.{isParent, isDepth, isLevelOn, isLabelOn, isNext, areLinks, areParents, eqZ, isRecorded};
 ghost use Rattle.laws.specs.Test.{allTo};
 ghost use Rattle.inspect_tree.specs.Columns.{fieldTable, levelTable, rootTable, parents, depths};
 ghost use Rattle.inspect_tree.specs.Line.{Marked, isPlaced};
@@ -95,6 +93,9 @@ fn is_one_less(l: i32, a: i32) -> bool
     if l < a { l == a - 1 } else { false }
 }
 
+// Labels off the line go from 1 to this one.
+const LARGEST_LABEL: u16 = 9999;
+
 // Label of row x, which lies on the line or not.
 fn is_label(fields: &[u16], line: bool, x: u16) -> bool
     ensures { λ r. ⌜ r ≡ isLabelOn (fieldTable (now (fields .entry)) 0) line x ⌝ }
@@ -103,7 +104,7 @@ fn is_label(fields: &[u16], line: bool, x: u16) -> bool
     if line {
         return l == 0;
     }
-    (1 <= l) & (l <= 9999)
+    (1 <= l) & (l <= LARGEST_LABEL)
 }
 
 // Marks by 1 the rows from the root up, as many as the root's depth says; all other cells are 0.
