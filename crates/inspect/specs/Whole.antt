@@ -16,9 +16,9 @@ use Rattle.inspect_laws.specs.SetSizes.{areSetSizes, areSmallChildren, says-set
 use Rattle.inspect_laws.specs.Nested.{areNested}
 use Rattle.inspect_laws.specs.Entries.{areEntries}
 use Rattle.inspect_laws.specs.Inspects.{inspects}
-use Rattle.inspect.specs.Columns.{fieldTable, rootTable, spanTable, entryTable}
-use Rattle.inspect.specs.Grouped.{Positive}
-use Rattle.inspect.specs.RecordedBy.{Stored}
+use Rattle.inspect_tree.specs.Columns.{fieldTable, rootTable, spanTable, entryTable}
+use Rattle.inspect_spans.specs.Grouped.{Positive}
+use Rattle.inspect_tree.specs.RecordedBy.{Stored}
 
 -- what rule 1 tells the passes that follow
 pub record Known (f : List ℕ) (n capacity : ℕ) : Type 0 where

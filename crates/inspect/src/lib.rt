@@ -1,14 +1,14 @@
-// Inspection: whether a table follows the six rules. Each rule has a file; the scratch holds what a pass works out.
-use compressed::is_compressed;
-use entries::are_entries;
-use nested::are_nested;
-use recorded::is_recorded;
+// Inspection: whether a table follows the six rules.
+use inspect_spans::entries::are_entries;
+use inspect_spans::nested::are_nested;
+use inspect_tree::compressed::is_compressed;
+use inspect_tree::recorded::is_recorded;
+use inspect_tree::set_sizes::are_set_sizes;
+use inspect_tree::set_sizes::are_small_children;
 use rows::capacity::Fit;
 use rows::capacity::capacity;
 use rows::refusal::Refusal;
 use rows::state::State;
-use set_sizes::are_set_sizes;
-use set_sizes::are_small_children;
 ghost use mathlib.Core.Path.{_≡_};
 ghost use Prim.Native.Nat.{_≤_};
 ghost use lib.ListN.{length};
@@ -16,14 +16,6 @@ ghost use Rattle.rows.specs.Row.{partsOf};
 ghost use Rattle.rows.specs.Table.{tableOf};
 ghost use Rattle.inspect_laws.specs.Inspects.{inspects};
 ghost use Rattle.inspect.specs.Inspection.{Inspection};
-
-mod cells;
-mod compressed;
-mod entries;
-mod nested;
-mod order;
-mod recorded;
-mod set_sizes;
 
 // Whether a table passes, or why it was not inspected.
 pub enum Inspected {

@@ -6,7 +6,7 @@ use Rattle.inspect_laws.specs.Recorded.{isRecorded}
 use Rattle.inspect_laws.specs.Compressed.{isCompressed}
 use Rattle.inspect_laws.specs.SetSizes.{areSetSizes, areSmallChildren}
 use Rattle.inspect_laws.specs.Nested.{areNested}
-use Rattle.inspect.specs.Columns.{fieldTable, rootTable, spanTable}
+use Rattle.inspect_tree.specs.Columns.{fieldTable, rootTable, spanTable}
 use Rattle.inspect.specs.Whole.{recorded-known, set-positive, stop-one, stop-two, stop-three, stop-four, stop-five, all-six}
 use borrow.Author.Needs.{needs}
 use native.Mathlib.Omega.{arith}
