@@ -14,3 +14,5 @@ pub mod CheckWalkExact
 pub mod StoreExact
 pub mod PlanExact
 pub mod GrowthExact
+pub mod GrowthRows
+pub mod GrowthServed
