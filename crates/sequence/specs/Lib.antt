@@ -2,3 +2,4 @@ pub mod Calls
 pub mod Run
 pub mod Agrees
 pub mod Invariant
+pub mod StepExact
