@@ -3,3 +3,4 @@ pub mod Run
 pub mod Agrees
 pub mod Invariant
 pub mod StepExact
+pub mod AskedSteps
