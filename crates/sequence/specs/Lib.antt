@@ -4,3 +4,4 @@ pub mod Agrees
 pub mod Invariant
 pub mod StepExact
 pub mod AskedSteps
+pub mod GrowthSteps
