@@ -68,6 +68,7 @@ module _ {c : ℕ} {f : Fast} {p : PlainList} {total : ℕ} (s : Stands c f p to
         agrees = node-agrees _ (s .count);
         few = λ x y _. few-rows (f .parts) (s .fits) (f .state) x y;
         renumbers = λ m k i. record { growth = g; asked = a; head = e .head; grown = e .grown; rows = sym (ap rowsIn i) };
+        kept = λ n i. absurd (let z : _≡_ {A = ℕ} 0 1 = cc in omega arith);
       };
       stands = record {
         fits = e .fits;

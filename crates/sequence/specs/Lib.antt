@@ -5,3 +5,4 @@ pub mod Invariant
 pub mod StepExact
 pub mod AskedSteps
 pub mod GrowthSteps
+pub mod SequenceExact

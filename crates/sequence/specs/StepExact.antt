@@ -1,5 +1,5 @@
 -- What one call does, where the table stands beside the plain list (01, "Demand 3 and the plain list").
-use mathlib.Core.Path.{_≡_}
+use mathlib.Core.Path.{_≡_, refl}
 use mathlib.Core.Logic.{_≢_}
 use mathlib.Core.List.{List}
 use Prim.Native.Nat.{ℕ, _+_, _≤_}
@@ -15,7 +15,7 @@ use Rattle.growth_laws.specs.Grown.{Grown}
 use Rattle.growth_laws.specs.Renumbered.{rows}
 use Rattle.plain_list.specs.PlainList.{PlainList}
 use Rattle.plain_list.specs.PlainStep.{PlainReply, PlainOutcome}
-use Rattle.sequence.specs.Calls.{Call, leaf, root, question, Reply, grown}
+use Rattle.sequence.specs.Calls.{Call, leaf, root, question, Reply, refused, grown}
 use Rattle.sequence.specs.Run.{Fast, tableIn, Turn, replies, rowsIn}
 use Rattle.sequence.specs.Agrees.{Agrees}
 use Rattle.sequence.specs.Invariant.{Stands}
@@ -45,6 +45,8 @@ pub record StepExact (c : ℕ) (f : Fast) (q : Call) (o : PlainOutcome) (u : Tur
   pub few : (x y : ℕ) → q ≡ question x y → DrawsOn mostRows c (f .parts) (f .state) x y
   -- a served growth renumbers its head and all rows below it in the stored tree, and answers how many these are
   pub renumbers : (n k : ℕ) → u .reply ≡ grown n k → Renumbers (tableIn f) (tableIn (u .after)) q k
+  -- a refusal leaves parts, count and root as they went in
+  pub kept : (n : ℕ) → u .reply ≡ refused n → u .after ≡ f
 
 -- the same, and the tables stand beside the plain list again
 pub record StepStands (c : ℕ) (f : Fast) (total : ℕ) (q : Call) (o : PlainOutcome) (u : Turn) : Type 0 where
@@ -60,7 +62,7 @@ few-rows a f s x y = let d = question-few-rows a f s x y in record { rows = d .r
 pub still : {c : ℕ} {f : Fast} {p : PlainList} {total : ℕ} → Stands c f p total → (q : Call) {r : PlainReply} {u : Reply} → Agrees r u
     → rowsIn u ≡ 0 → ((n k : ℕ) → u ≢ grown n k) → StepStands c f total q (record { reply = r; after = p }) (replies f u)
 still {c} {f} {p} {total} s q {r} {u} a z d = record {
-  exact = record { agrees = a; few = λ x y _. few-rows (f .parts) (s .fits) (f .state) x y; renumbers = λ n k e. absurd (d n k e) };
+  exact = record { agrees = a; few = λ x y _. few-rows (f .parts) (s .fits) (f .state) x y; renumbers = λ n k e. absurd (d n k e); kept = λ n e. refl };
   stands = record {
     fits = s .fits;
     rules = s .rules;
