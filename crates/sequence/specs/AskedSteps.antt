@@ -3,7 +3,7 @@ use mathlib.Core.Path.{_≡_, refl, sym, ap, _∙_}
 use mathlib.Core.Bool.{Bool, true}
 use mathlib.Core.Logic.{_≢_}
 use mathlib.Core.List.{List}
-use Prim.Native.Nat.{ℕ, _≤_, _<_}
+use Prim.Native.Nat.{ℕ, _<_}
 use native.Mathlib.Decide.{decLt, ℕ-discrete}
 use native.Mathlib.Omega.{arith}
 use borrow.Author.Tests.{eq-eqb, ne-eqb}
@@ -24,13 +24,13 @@ use Rattle.inspect.specs.declared.Inspected.{Inspected}
 use Rattle.inspect.specs.declared.Inspected.the-variants.{Passes, Refused}
 use Rattle.inspect.specs.Inspection.{inspection as inspect}
 use Rattle.plain_list.specs.PlainList.{PlainList, countOf}
-use Rattle.plain_list.specs.PlainStep.{PlainCall, PlainReply, PlainOutcome, refused as plainRefused, answered as plainAnswered, same as plainSame, passes}
+use Rattle.plain_list.specs.PlainStep.{PlainReply, PlainOutcome, refused as plainRefused, answered as plainAnswered, same as plainSame, passes}
 use Rattle.plain_list.specs.PlainStep.{question as plainQuestion, alike as plainAlike, inspection as plainInspection, refusalOf, plainOutcome}
 use Rattle.plain_list.specs.PlainStepLaws.{question-served, alike-served, inspection-served, question-unknown, alike-unknown, inspection-misfit}
-use Rattle.plain_list.specs.Shows.{question-reply, alike-reply, naive-is, naive-same-is}
-use Rattle.sequence.specs.Calls.{Call, question, alike, inspection, told, Reply, refused, grown, answered, same, inspected}
+use Rattle.plain_list.specs.Shows.{naive-is, naive-same-is}
+use Rattle.sequence.specs.Calls.{Call, question, alike, inspection, Reply, refused, answered, same, inspected}
 use Rattle.sequence.specs.Run.{Fast, tableIn, Turn, replies, questionReply, alikeReply, inspectionReply, step}
-use Rattle.sequence.specs.Agrees.{Agrees, refusals, answers, alikes, pass}
+use Rattle.sequence.specs.Agrees.{refusals, answers, alikes, pass}
 use Rattle.sequence.specs.Invariant.{Stands}
 use Rattle.sequence.specs.StepExact.{StepStands, still}
 

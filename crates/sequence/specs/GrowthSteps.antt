@@ -1,6 +1,6 @@
 -- Leaf and root, where the table stands beside the plain list: refused as it refuses, or served, and the table stands beside it again.
 use mathlib.Core.Path.{_≡_, refl, sym, ap, _∙_}
-use mathlib.Core.Bool.{true, false}
+use mathlib.Core.Bool.{false}
 use mathlib.Core.Logic.{_≢_}
 use mathlib.Core.List.{List}
 use Prim.Native.Nat.{ℕ, suc, _≤_, _<_}
@@ -29,7 +29,7 @@ use Rattle.growth_laws.specs.GrowthPays.{total-kept}
 use Rattle.growth_exact.specs.GrowthExact.{GrownExactly, tableGrown, leaf-exact, root-exact}
 use Rattle.plain_list.specs.PlainList.{PlainList, countOf, withLeaf, withRoot}
 use Rattle.plain_list.specs.PlainListLaws.{leaf-count, leaf-root, root-count, root-root}
-use Rattle.plain_list.specs.PlainStep.{PlainOutcome, node, refused as plainRefused, leaf as plainLeaf, root as plainRoot, plainOutcome}
+use Rattle.plain_list.specs.PlainStep.{node, refused as plainRefused, leaf as plainLeaf, root as plainRoot, plainOutcome}
 use Rattle.plain_list.specs.PlainStepLaws as plainly
 use Rattle.plain_list.specs.Proper.{Proper, proper-leaf, proper-root}
 use Rattle.plain_list.specs.Shows.{Shows, shows-leaf, shows-root}

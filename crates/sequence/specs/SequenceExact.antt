@@ -1,6 +1,6 @@
 -- Demand 3 (01, "Demand 3 and the plain list"): a list of calls, of any length, from what set-up leaves, gives the outcomes of the plain list.
 -- All of it is one claim about the list.
-use mathlib.Core.Path.{_≡_, sym}
+use mathlib.Core.Path.{_≡_}
 use mathlib.Core.List.{List, [], _∷_}
 use Prim.Native.Nat.{ℕ, _+_, _*_, _≤_}
 use native.Mathlib.Omega.{arith}
@@ -18,7 +18,7 @@ use Rattle.plain_list.specs.PlainList.{PlainList, emptyList, countOf}
 use Rattle.plain_list.specs.PlainStep.{plainOutcome, plainAfter, plainRun}
 use Rattle.plain_list.specs.Shows.{Shows}
 use Rattle.sequence.specs.Calls.{Call, leaf, root, question, alike, inspection, told, toldAll}
-use Rattle.sequence.specs.Run.{Fast, tableIn, start, rowsIn, step, run, totalIn}
+use Rattle.sequence.specs.Run.{Fast, tableIn, start, step, run, totalIn}
 use Rattle.sequence.specs.Agrees.{AllAgree, end, next}
 use Rattle.sequence.specs.Invariant.{Stands, start-stands}
 use Rattle.sequence.specs.StepExact.{StepExact, StepStands}
