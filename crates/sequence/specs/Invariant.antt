@@ -1,0 +1,56 @@
+-- What stands between two calls: the table passes inspection, its plain tree is the plain list's, and the rows renumbered so far are paid for.
+use mathlib.Core.Path.{_≡_, refl, _∙_}
+use Prim.Native.Nat.{ℕ}
+use Rattle.rows.specs.Row.{Parts}
+use Rattle.rows.specs.Capacity.{Fits}
+use Rattle.rows.specs.Table.{label}
+use Rattle.rows.specs.PlainTree.{plain}
+use Rattle.rows.specs.Rules.{Rules}
+use Rattle.question.specs.QuestionExact.{fits-told}
+use Rattle.growth_laws.specs.Lag.{Paid}
+use Rattle.growth_laws.specs.EmptyTable.{total-empty}
+use Rattle.set_up.specs.Tabulate.{length-tabulate}
+use Rattle.set_up.specs.Blank.{blank, partsAfter}
+use Rattle.set_up.specs.BlankLaws.{empty-rules}
+use Rattle.plain_list.specs.PlainList.{PlainList, emptyList, countOf}
+use Rattle.plain_list.specs.Proper.{Proper, proper-empty}
+use Rattle.plain_list.specs.Shows.{Shows, shows-empty}
+use Rattle.sequence.specs.Run.{Fast, tableIn, start}
+
+-- f, at capacity c, stands beside the plain list p after growths that renumbered so many rows in total
+pub record Stands (c : ℕ) (f : Fast) (p : PlainList) (total : ℕ) : Type 0 where
+  pub fits : Fits c (f .parts)
+  pub rules : Rules c (tableIn f)
+  pub proper : Proper c p
+  pub shows : Shows (plain (tableIn f)) (label (tableIn f)) p
+  pub count : countOf p ≡ f .state .count
+  pub root : p .root ≡ f .state .root
+  pub paid : Paid (tableIn f) total
+
+-- At the start
+
+pub blank-fits : (c : ℕ) (parts : Parts) → Fits c parts → Fits c (blank parts)
+unfolding blank
+blank-fits c parts f = record {
+  least = f .least;
+  most = f .most;
+  levels = length-tabulate _ _ ∙ f .levels;
+  fields = length-tabulate _ _ ∙ f .fields;
+  numbers = length-tabulate _ _ ∙ f .numbers;
+  ancestors = length-tabulate _ _ ∙ f .ancestors;
+}
+
+pub start-fits : (c : ℕ) (parts : Parts) → Fits c parts → Fits c (partsAfter parts)
+unfolding partsAfter
+start-fits c parts f = rw (fits-told f) (blank-fits c parts f)
+
+pub start-stands : (c : ℕ) (parts : Parts) → Fits c parts → Stands c (start parts) emptyList 0
+start-stands c parts f = record {
+  fits = start-fits c parts f;
+  rules = empty-rules c (tableIn (start parts)) refl refl;
+  proper = proper-empty;
+  shows = shows-empty (plain (tableIn (start parts))) (label (tableIn (start parts)));
+  count = refl;
+  root = refl;
+  paid = total-empty (tableIn (start parts)) refl;
+}

@@ -1,0 +1,98 @@
+-- A list of calls, one after another, by the very definitions that the contracts of the code name.
+use mathlib.Core.List.{List, [], _∷_}
+use Prim.Native.Nat.{ℕ, _+_}
+use lib.ListN.{length}
+use Rattle.tree_laws.specs.Ancestor.{none}
+use Rattle.rows.specs.declared.state.State.{State}
+use Rattle.rows.specs.Refusal.{numberOf}
+use Rattle.rows.specs.Row.{Parts}
+use Rattle.rows.specs.Table.{Table, tableOf}
+use Rattle.set_up.specs.Blank.{partsAfter}
+use Rattle.growth.specs.declared.Grown.{Grown}
+use Rattle.growth.specs.declared.Grown.the-variants.{Node, Refused as NotGrown}
+use Rattle.growth.specs.Growth.{Outcome as GrowthOutcome, addLeaf, addRoot}
+use Rattle.query.specs.Outcome.{Outcome as QuestionOutcome, refusal as noAnswer, answer}
+use Rattle.query.specs.Question.{question as ask}
+use Rattle.alike.specs.Outcome.{Outcome as AlikeOutcome, refusal as noValue, value}
+use Rattle.alike.specs.Alike.{alike as compare}
+use Rattle.inspect.specs.declared.Inspected.{Inspected}
+use Rattle.inspect.specs.declared.Inspected.the-variants.{Passes, Refused as NotInspected}
+use Rattle.inspect.specs.Inspection.{inspection as inspect}
+use Rattle.sequence.specs.Calls.{Call, leaf, root, question, alike, inspection, Reply, refused, grown, answered, same, inspected}
+
+-- the lent parts, with their count and root
+pub record Fast : Type 0 where
+  pub parts : Parts
+  pub state : State
+
+-- the table that they stand for
+abbrev pub tableIn : Fast → Table
+tableIn f = tableOf (f .parts) (f .state .count) (f .state .root)
+
+-- what set-up leaves in these parts
+abbrev pub start : Parts → Fast
+start parts = record { parts = partsAfter parts; state = record { count = 0; root = none } }
+
+-- the reply to a call, and what stands after it
+pub record Turn : Type 0 where
+  pub reply : Reply
+  pub after : Fast
+
+-- the turn of a call that changes nothing
+abbrev pub replies : Fast → Reply → Turn
+replies f r = record { reply = r; after = f }
+
+-- a growth: count and root as it returned them, after a refusal as they went in
+abbrev pub grownReply : Grown → Reply
+grownReply (Node n) = grown (n .node) (n .rows)
+grownReply (NotGrown r) = refused (numberOf r)
+
+abbrev pub stateAfter : State → Grown → State
+stateAfter s (Node n) = n .state
+stateAfter s (NotGrown r) = s
+
+abbrev pub afterGrowth : State → GrowthOutcome → Turn
+afterGrowth s o = record { reply = grownReply (o .grown); after = record { parts = o .parts; state = stateAfter s (o .grown) } }
+
+abbrev pub questionReply : QuestionOutcome → Reply
+questionReply (noAnswer n) = refused n
+questionReply (answer a u v i j l) = answered a u v i j l
+
+abbrev pub alikeReply : AlikeOutcome → Reply
+alikeReply (noValue n) = refused n
+alikeReply (value b) = same b
+
+abbrev pub inspectionReply : Inspected → Reply
+inspectionReply (Passes b) = inspected b
+inspectionReply (NotInspected r) = refused (numberOf r)
+
+-- one call
+unfoldable pub step : Fast → Call → Turn
+step f (leaf v l s) = afterGrowth (f .state) (addLeaf (f .parts) (length s) (f .state) v l)
+step f (root s) = afterGrowth (f .state) (addRoot (f .parts) (length s) (f .state))
+step f (question x y) = replies f (questionReply (ask (f .parts) (f .state) x y))
+step f (alike x y) = replies f (alikeReply (compare (f .parts) (f .state) x y))
+step f (inspection s) = replies f (inspectionReply (inspect (f .parts) (length s) (f .state)))
+
+-- the replies to a list of calls, and what stands after the last
+pub record Run : Type 0 where
+  pub replies : List Reply
+  pub last : Fast
+
+-- the calls one after another, each on what the one before left
+unfoldable pub run : Fast → List Call → Run
+run f [] = record { replies = []; last = f }
+run f (q ∷ qs) = let rest = run (step f q .after) qs in record { replies = step f q .reply ∷ rest .replies; last = rest .last }
+
+-- the rows that a reply says were renumbered
+abbrev pub rowsIn : Reply → ℕ
+rowsIn (refused n) = 0
+rowsIn (grown n k) = k
+rowsIn (answered a u v i j l) = 0
+rowsIn (same b) = 0
+rowsIn (inspected b) = 0
+
+-- and all replies of a list
+unfoldable pub totalIn : List Reply → ℕ
+totalIn [] = 0
+totalIn (r ∷ rs) = rowsIn r + totalIn rs

@@ -1,0 +1,62 @@
+-- What set-up answers and leaves, by what the parts fit.
+use mathlib.Core.Path.{_≡_, refl, sym, ap, _∙_}
+use mathlib.Core.List.{List}
+use Prim.Native.Nat.{ℕ, _<_}
+use native.Mathlib.Omega.{arith}
+use lib.IntN.{ℤ, pos}
+use lib.ListN.{length}
+use Rattle.set_up.specs.Tabulate.{tabulate}
+use Rattle.tree_laws.specs.Ancestor.{none}
+use Rattle.rows.specs.declared.capacity.Fit.{Fit}
+use Rattle.rows.specs.declared.capacity.Fit.the-variants.{Capacity, Misfit}
+use Rattle.rows.specs.Row.{Parts, partsOf}
+use Rattle.rows.specs.Capacity.{Fits, capacityOf}
+use Rattle.rows.specs.CapacityLaws.{capacity-fits}
+use Rattle.rows.specs.Table.{Table}
+use Rattle.rows.specs.Rules.{Rules}
+use Rattle.rows.specs.declared.refusal.Refusal.the-variants as refusal
+use Rattle.set_up.specs.declared.Made.{Made}
+use Rattle.set_up.specs.declared.Made.the-variants.{Empty, Refused}
+use Rattle.set_up.specs.Blank.{blankField, blank, made, setUp, leaves, partsAfter}
+
+-- the parts do not fit: nothing is changed
+pub set-up-misfit : (t : Parts) (f : Fit) → f ≡ capacityOf t → f ≡ Misfit → (Refused refusal.Misfit ≡ setUp t) × (t ≡ partsAfter t)
+unfolding setUp partsAfter
+set-up-misfit t f e m = (ap made (sym m ∙ e), ap (λ (k : Fit). leaves k t) (sym m ∙ e))
+
+-- they fit: each part is blank
+pub set-up-fits : (t : Parts) (c : ℕ) (f : Fit) {fields numbers : List ℕ} {levels : List ℤ} {ancestors : List ℕ} → f ≡ capacityOf t → f ≡ Capacity c
+    → fields ≡ tabulate blankField (length (t .fields)) → numbers ≡ tabulate (λ _. 0) (length (t .numbers))
+    → levels ≡ tabulate (λ _. pos 0) (length (t .levels)) → ancestors ≡ tabulate (λ _. none) (length (t .ancestors))
+    → (Empty (record { count = 0; root = none }) ≡ setUp t) × (partsOf fields numbers levels ancestors ≡ partsAfter t)
+unfolding setUp partsAfter blank
+set-up-fits t c f e m a b l d = (ap made (sym m ∙ e), (rw (a, b, l, d) refl) ∙ ap (λ (k : Fit). leaves k t) (sym m ∙ e))
+
+-- parts that fit are never refused
+pub set-up-served : (t : Parts) (c : ℕ) → Fits c t → setUp t ≡ Empty (record { count = 0; root = none })
+unfolding setUp
+set-up-served t c f = ap made (sym (capacity-fits t (rw (← f .levels) at f)))
+
+-- an empty table passes inspection
+pub empty-rules : (capacity : ℕ) (t : Table) → t .count ≡ 0 → t .root ≡ none → Rules capacity t
+empty-rules capacity t e r = record {
+  one = record {
+    count = omega arith;
+    noRoot = λ _. r;
+    root = λ h. absurd (omega arith);
+    first = λ h. absurd (omega arith);
+    smaller = λ x l. none-in-use x l;
+    depth = λ x l. none-in-use x l;
+    level = λ x l. none-in-use x l;
+    children = λ x l. none-in-use x l;
+    label = λ x l. none-in-use x l;
+  };
+  two = record { path = λ x l. none-in-use x l; upper = λ x l. none-in-use x l; size = λ x l. none-in-use x l };
+  three = λ x l. none-in-use x l;
+  four = λ x l. none-in-use x l;
+  five = record { apart = λ x l. none-in-use x l; inside = λ x l. none-in-use x l; room = λ x l. none-in-use x l; dense = λ x l. none-in-use x l; first = λ h. absurd (omega arith) };
+  six = λ x l. none-in-use x l;
+}
+  where
+    none-in-use : {A : Type 0} (x : ℕ) → x < t .count → A
+    none-in-use x l = absurd (omega arith)

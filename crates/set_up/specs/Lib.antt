@@ -1,0 +1,3 @@
+pub mod Tabulate
+pub mod Blank
+pub mod BlankLaws

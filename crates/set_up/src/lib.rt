@@ -1,0 +1,90 @@
+// An empty table in lent parts of one capacity.
+use rows::capacity::Fit;
+use rows::layout::FIELDS;
+use rows::layout::NONE;
+use rows::layout::SIZE;
+use rows::refusal::Refusal;
+use rows::state::State;
+ghost use mathlib.Core.Path.{_≡_};
+ghost use lib.ListN.{length};
+ghost use lib.IntN.{pos};
+ghost use Rattle.set_up.specs.Tabulate.{tabulate};
+ghost use Rattle.rows.specs.Row.{partsOf};
+ghost use Rattle.set_up.specs.Blank.{blankField, setUp, partsAfter};
+
+pub enum Made {
+    Empty(State),
+    Refused(Refusal),
+}
+
+// What place i of the fields holds in an empty table: links none, other numbers 0.
+fn blank_field(i: usize) -> u16
+    ensures { λ r. ⌜ r ≡ blankField i ⌝ }
+{
+    if i % FIELDS < SIZE as usize { NONE } else { 0 }
+}
+
+fn clear_fields(fields: &mut [u16])
+    ensures { λ _. ⌜ now (fields .exit) ≡ tabulate blankField (length (now (fields .entry))) ⌝ }
+{
+    let mut i: usize = 0;
+    while i < fields.len() {
+        fields[i] = blank_field(i);
+        i += 1;
+    }
+}
+
+fn clear_numbers(numbers: &mut [u64])
+    ensures { λ _. ⌜ now (numbers .exit) ≡ tabulate (λ _. 0) (length (now (numbers .entry))) ⌝ }
+{
+    let mut i: usize = 0;
+    while i < numbers.len() {
+        numbers[i] = 0;
+        i += 1;
+    }
+}
+
+fn clear_levels(levels: &mut [i32])
+    ensures { λ _. ⌜ now (levels .exit) ≡ tabulate (λ _. pos 0) (length (now (levels .entry))) ⌝ }
+{
+    let mut i: usize = 0;
+    while i < levels.len() {
+        levels[i] = 0;
+        i += 1;
+    }
+}
+
+fn clear_ancestors(ancestors: &mut [u16])
+    ensures { λ _. ⌜ now (ancestors .exit) ≡ tabulate (λ _. 65535) (length (now (ancestors .entry))) ⌝ }
+{
+    let mut i: usize = 0;
+    while i < ancestors.len() {
+        ancestors[i] = NONE;
+        i += 1;
+    }
+}
+
+// Count 0, root and links none, other numbers 0; refused only where the parts do not fit one capacity.
+pub fn set_up(
+    fields: &mut [u16],
+    numbers: &mut [u64],
+    levels: &mut [i32],
+    ancestors: &mut [u16],
+) -> Made
+    ensures outcome { λ r. ⌜ r ≡ setUp (partsOf (now (fields .entry)) (now (numbers .entry)) (now (levels .entry)) (now (ancestors .entry))) ⌝ }
+    ensures after { λ _. ⌜ partsOf (now (fields .exit)) (now (numbers .exit)) (now (levels .exit)) (now (ancestors .exit)) ≡ partsAfter (partsOf (now (fields .entry)) (now (numbers .entry)) (now (levels .entry)) (now (ancestors .entry))) ⌝ }
+{
+    match rows::capacity::capacity(fields, numbers, levels, ancestors) {
+        Fit::Misfit => Made::Refused(Refusal::Misfit),
+        Fit::Capacity(_) => {
+            clear_fields(fields);
+            clear_numbers(numbers);
+            clear_levels(levels);
+            clear_ancestors(ancestors);
+            Made::Empty(State {
+                count: 0,
+                root: NONE,
+            })
+        }
+    }
+}
