@@ -14,7 +14,7 @@ use Rattle.rows.specs.Answer.{Answer}
 use Rattle.query.specs.Outcome.{Outcome as QuestionOutcome, refused as noAnswer}
 use Rattle.query.specs.Question.{question as ask}
 use Rattle.query.specs.QuestionLaws.{question-unknown-x, question-unknown-y}
-use Rattle.question.specs.QuestionExact.{fits-told, question-exact}
+use Rattle.question.specs.QuestionExact.{given, fits-told, question-exact}
 use Rattle.alike.specs.Outcome.{Outcome as AlikeOutcome, refused as noValue}
 use Rattle.alike.specs.Alike.{alike as compare}
 use Rattle.alike.specs.AlikeLaws.{alike-unknown-x, alike-unknown-y}
@@ -28,7 +28,7 @@ use Rattle.plain_list.specs.PlainStep.{PlainReply, PlainOutcome, refused as pla
 use Rattle.plain_list.specs.PlainStep.{question as plainQuestion, alike as plainAlike, inspection as plainInspection, refusalOf, plainOutcome}
 use Rattle.plain_list.specs.PlainStepLaws.{question-served, alike-served, inspection-served, question-unknown, alike-unknown, inspection-misfit}
 use Rattle.plain_list.specs.Shows.{naive-is, naive-same-is}
-use Rattle.sequence.specs.Calls.{Call, question, alike, inspection, Reply, refused, answered, same, inspected}
+use Rattle.sequence.specs.Calls.{Call, question, alike, inspection, Reply, refused, same, inspected}
 use Rattle.sequence.specs.Run.{Fast, tableIn, Turn, replies, questionReply, alikeReply, inspectionReply, step}
 use Rattle.sequence.specs.Agrees.{refusals, answers, alikes, pass}
 use Rattle.sequence.specs.Invariant.{Stands}
@@ -51,16 +51,19 @@ module _ {c : ℕ} {f : Fast} {p : PlainList} {total : ℕ} (s : Stands c f p to
   question-refused x y d e = steps-by (question x y) (plainRefused 1) (refused 1) (question-unknown c p x y d)
       (ap (λ (o : QuestionOutcome). replies f (questionReply o)) (sym e)) (still-refused (question x y) 1)
 
+  question-given : (x y : ℕ) (r : Answer) → plainOutcome c p (plainQuestion x y) ≡ record { reply = plainAnswered r; after = p }
+      → ask (f .parts) (f .state) x y ≡ given r → StepStands c f total (question x y) (plainOutcome c p (plainQuestion x y)) (step f (question x y))
+  unfolding step
+  question-given x y r e i = steps-by (question x y) (plainAnswered r) _ e (ap (λ (o : QuestionOutcome). replies f (questionReply o)) i)
+      (still s (question x y) (answers r) refl (λ n k e. let z : _≡_ {A = ℕ} 0 1 = cc in omega arith))
+
   question-answered : (x y : ℕ) → x < countOf p → y < countOf p
       → StepStands c f total (question x y) (plainOutcome c p (plainQuestion x y)) (step f (question x y))
-  unfolding step
   question-answered x y l m =
       let e = question-exact (f .parts) (f .state) x y (s .fits) (s .rules) (omega (arith, s .count)) (omega (arith, s .count)) in
-      let r : Answer = e .value in
-      steps-by (question x y) (plainAnswered r) _
+      question-given x y (e .value)
       (question-served c p x y l m ∙ ap (λ (a : Answer). record { reply = plainAnswered a; after = p }) (naive-is (s .proper) (s .shows) l m (e .answers)))
-      (ap (λ (o : QuestionOutcome). replies f (questionReply o)) (e .outcome))
-      (still s (question x y) (answers r) refl (λ n k e. let z : _≡_ {A = ℕ} 0 1 = cc in omega arith))
+      (e .outcome)
 
   pub question-step : (x y : ℕ) → StepStands c f total (question x y) (plainOutcome c p (plainQuestion x y)) (step f (question x y))
   question-step x y = elim (decLt x (countOf p)) [

@@ -4,7 +4,8 @@ use mathlib.Core.List.{List, [], _∷_}
 use Prim.Native.Nat.{ℕ}
 use lib.IntN.{ℤ}
 use lib.ListN.{length}
-use Rattle.plain_list.specs.PlainStep.{PlainCall, leaf as plainLeaf, root as plainRoot, question as plainQuestion, alike as plainAlike, inspection as plainInspection}
+use Rattle.plain_list.specs.PlainStep.{PlainCall, leaf as plainLeaf, root as plainRoot}
+use Rattle.plain_list.specs.PlainStep.{question as plainQuestion, alike as plainAlike, inspection as plainInspection}
 
 -- a call by its arguments; the parts, count and root are those that the call before it left. The scratch holds anything.
 pub data Call : Type 0 where

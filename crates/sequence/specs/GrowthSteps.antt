@@ -54,14 +54,15 @@ module _ {c : ℕ} {f : Fast} {p : PlainList} {total : ℕ} (s : Stands c f p to
     root : p′ .root ≡ rootOf (tableIn f) g
 
   module _ (room : f .state .count < c) {g : Growth} {o : Outcome} (e : GrownExactly c (f .parts) (f .state) g o) where
-    abbrev d : Table
-    d = tableGrown (f .parts) (f .state) g o
+    -- the table that it leaves
+    abbrev left : Table
+    left = tableGrown (f .parts) (f .state) g o
 
     -- the turn that it takes
     abbrev turn : Grown → Turn
     turn y = record { reply = grownReply y; after = record { parts = o .parts; state = stateAfter (f .state) y } }
 
-    grown-step : {q : Call} {p′ : PlainList} → Asks q g → Next g d p′ → StepStands c f total q (record { reply = node (countOf p); after = p′ })
+    grown-step : {q : Call} {p′ : PlainList} → Asks q g → Next g left p′ → StepStands c f total q (record { reply = node (countOf p); after = p′ })
         (afterGrowth (f .state) o)
     grown-step {q} {p′} a n = rw (ap turn (e .answered)) record {
       exact = record {
