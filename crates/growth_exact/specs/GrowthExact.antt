@@ -4,7 +4,7 @@ use mathlib.Core.Path.{_≡_, refl, ap, sym, _∙_}
 use mathlib.Core.Bool.{true}
 use mathlib.Core.Logic.{inl, inr, _≢_}
 use Prim.Native.Nat.{ℕ, suc, _+_, _*_, _≤_, _<_}
-use native.Mathlib.Decide.{decLt, ℕ-discrete}
+use native.Mathlib.Decide.{ℕ-discrete}
 use native.Mathlib.Omega.{arith}
 use borrow.Author.Tests.{le-leb, ne-eqb}
 use lib.Dec.{eqb, leb}
@@ -33,13 +33,12 @@ use Rattle.growth_laws.specs.GrowthPlain.{growth-plain}
 use Rattle.growth_laws.specs.Lag.{lag, worth, perRow}
 use Rattle.growth_laws.specs.PlainStep.{PlainStep}
 use Rattle.growth_laws.specs.Renumbered.{rows}
-use Rattle.growth.specs.declared.Grown.{Grown as Answered}
 use Rattle.growth.specs.declared.Grown.the-variants.{Node}
 use Rattle.growth.specs.declared.plan.Plan.{Plan}
 use Rattle.growth.specs.declared.plan.Planned.{Planned}
 use Rattle.growth.specs.declared.plan.Planned.the-variants.{Grow}
 use Rattle.growth.specs.Level.{levelOf as levelWithin}
-use Rattle.growth.specs.Plan.{isLabel, leafPlan, rootPlan, firstRoot}
+use Rattle.growth.specs.Plan.{leafPlan, rootPlan, firstRoot}
 use Rattle.growth.specs.PlanLaws.{leaf-row, root-row, root-first}
 use Rattle.growth.specs.Store.{storedBy}
 use Rattle.growth.specs.Growth.{Outcome, served, grownBy, addLeaf, addRoot}
@@ -47,7 +46,7 @@ use Rattle.growth_exact.specs.SizeWalkExact.{more-one}
 use Rattle.growth_exact.specs.InsertExact.{LeafOf, between, inserted}
 use Rattle.growth_exact.specs.RenumberExact.{headAt}
 use Rattle.growth_exact.specs.HeadExact.{head-rows}
-use Rattle.growth_exact.specs.StoreExact.{after, partsAfter, tableAfter, after-fits, after-grown, after-rules, after-given}
+use Rattle.growth_exact.specs.StoreExact.{after, tableAfter, after-fits, after-grown, after-rules, after-given}
 use Rattle.growth_exact.specs.PlanExact.{u, leaf-of, h, head-is, plan, row-planned, level-planned}
 
 -- the table that stands after a growth g of p

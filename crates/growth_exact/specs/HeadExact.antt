@@ -1,24 +1,23 @@
 -- The head that the plan finds is the head of the new row's chain.
 use mathlib.Core.Path.{_≡_, refl, ap, sym, _∙_}
 use mathlib.Core.Bool.{Bool, true}
-use mathlib.Core.Logic.{inl, inr, _≢_}
-use mathlib.Core.List.{List}
-use Prim.Native.Nat.{ℕ, suc, _+_, _*_, _≤_, _<_}
+use mathlib.Core.Logic.{_≢_}
+use Prim.Native.Nat.{ℕ, _+_, _*_, _≤_, _<_}
 use native.Mathlib.Decide.{ℕ-discrete}
 use native.Mathlib.Omega.{arith}
-use borrow.Author.Tests.{ne-eqb, eq-eqb, lt-ltb, le-leb}
+use borrow.Author.Tests.{ne-eqb, lt-ltb}
 use lib.Dec.{eqb}
 use Rattle.laws.specs.Test.{Says, says-true, says-leb, pick}
-use Rattle.tree_laws.specs.Ancestor.{none, Anc, here, there, Forest}
-use Rattle.tree_laws.specs.AncestorLaws.{cases, anc-in, row-some}
+use Rattle.tree_laws.specs.Ancestor.{none, Anc, here, Forest}
+use Rattle.tree_laws.specs.AncestorLaws.{anc-in, row-some}
 use Rattle.tree_laws.specs.CompressedLaws.{size-apex}
-use Rattle.tree_laws.specs.Highest.{Highest, absent, highest, highestFrom}
+use Rattle.tree_laws.specs.Highest.{Highest, absent, highest}
 use Rattle.tree_laws.specs.HighestLaws.{highest-below}
 use Rattle.tree_laws.specs.Join.{Joins}
 use Rattle.tree_laws.specs.JoinLaws.{anc-kept, anc-old, anc-new}
 use Rattle.span.specs.Constants.{limit, growthUp, growthDown}
 use Rattle.span.specs.Numbers.{outgrown}
-use Rattle.rows.specs.Layout.{upperPlace, sizePlace}
+use Rattle.rows.specs.Layout.{sizePlace}
 use Rattle.rows.specs.Row.{Parts, rowOf, fieldAt}
 use Rattle.rows.specs.Capacity.{capacityLimit, Fits}
 use Rattle.rows.specs.Table.{Table, tableOf, depth, upper, size, setSize}
@@ -33,13 +32,13 @@ use Rattle.growth_laws.specs.HeadLaws.{says-due, highest-head}
 use Rattle.growth_laws.specs.Chains.{size-most}
 use Rattle.growth_laws.specs.Grown.{Grown}
 use Rattle.growth_laws.specs.GrowthKeepsRules.{growth-keeps-rules}
-use Rattle.growth_laws.specs.InsertedLaws.{inserted-trees, new-in}
+use Rattle.growth_laws.specs.InsertedLaws.{inserted-trees}
 use Rattle.growth_laws.specs.PlantedLinks.{planted-links}
 use Rattle.growth_laws.specs.Ready.{Ready}
 use Rattle.growth_laws.specs.ReadyLaws.{ready}
 use Rattle.growth_laws.specs.Renumbered.{rows, Renumbered}
 use Rattle.growth_laws.specs.SmallNumbers.{end-within}
-use Rattle.growth_laws.specs.Trees.{OwnTrees, own-trees, stored, uppers, recorded-depth, upper-parent}
+use Rattle.growth_laws.specs.Trees.{OwnTrees, own-trees, stored, uppers, recorded-depth}
 use Rattle.renumbering.specs.Renumbering.{Renumberable}
 use Rattle.growth.specs.declared.chain.Top.the-variants.{At}
 use Rattle.renumber.specs.declared.Head.{Head as PlanHead}

@@ -2,7 +2,6 @@
 use mathlib.Core.Path.{_≡_, refl, ap, sym, _∙_}
 use mathlib.Core.Bool.{Bool}
 use mathlib.Core.Logic.{_⊎_, inl, inr, _≢_}
-use mathlib.Core.List.{List}
 use Prim.Native.Nat.{ℕ, suc, _+_, _≤_, _<_}
 use native.Mathlib.Decide.{ℕ-discrete}
 use native.Mathlib.Omega.{arith}
@@ -27,7 +26,7 @@ use Rattle.rows.specs.Layout.{
   depthPlace,
   labelPlace,
 }
-use Rattle.rows.specs.Row.{Parts, partsOf, fieldAt, levelAt}
+use Rattle.rows.specs.Row.{Parts, partsOf, fieldAt}
 use Rattle.rows.specs.Write.{withLevel}
 use Rattle.rows.specs.Capacity.{Fits}
 use Rattle.rows.specs.Table.{Table, tableOf, parent, depth, upper, path, size}
@@ -35,7 +34,7 @@ use Rattle.rows.specs.StoredTree.{Child, FirstFrom, LastOf, absent, least, grea
 use Rattle.rows.specs.Rules.{Rules}
 use Rattle.numbering.specs.SoundRows.{depth-below}
 use Rattle.growth_laws.specs.Growth.{Growth, Named, parentOf, labelOf, levelOf, rootOf}
-use Rattle.growth_laws.specs.Inserted.{LinksAfter, Planted, SamePlace, Inserted}
+use Rattle.growth_laws.specs.Inserted.{LinksAfter, Planted, Inserted}
 use Rattle.growth_laws.specs.Chains.{size-most}
 use Rattle.growth_laws.specs.Trees.{OwnTrees, own-trees, stored, uppers, parent-upper, recorded-depth}
 use Rattle.growth_laws.specs.PlantedLaws.{parent-in, parent-some}

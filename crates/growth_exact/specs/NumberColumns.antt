@@ -1,16 +1,16 @@
 -- The numbers of a table read as columns: what the store of one row leaves of upper rows, sizes, spans and entries.
 use mathlib.Core.Path.{_≡_, refl, ap, sym, _∙_}
-use mathlib.Core.Logic.{_⊎_, inl, inr, _≢_}
+use mathlib.Core.Logic.{_⊎_, _≢_}
 use mathlib.Core.List.{List}
-use Prim.Native.Nat.{ℕ, _+_, _*_, _^_, _≤_, _<_}
+use Prim.Native.Nat.{ℕ, _*_, _^_, _≤_, _<_}
 use native.Mathlib.Decide.{ℕ-discrete}
 use native.Mathlib.Omega.{arith}
 use lib.Dec.{ltb}
-use Rattle.laws.specs.Test.{says-eq, says-ltb, pick}
+use Rattle.laws.specs.Test.{says-eq, says-ltb}
 use Rattle.tree_laws.specs.Ancestor.{none}
 use Rattle.tree_laws.specs.Highest.{highestFrom}
 use Rattle.span.specs.Constants.{limit, ratioUp, ratioDown}
-use Rattle.span.specs.Numbers.{pOf, endOf, reachOf, spanOf}
+use Rattle.span.specs.Numbers.{pOf, endOf, reachOf}
 use Rattle.span.specs.NumberLaws.{whole}
 use Rattle.span.specs.Power.{power}
 use Rattle.span.specs.PowerLaws.{power-below, below-power}
@@ -19,8 +19,8 @@ use Rattle.rows.specs.Row.{fieldAt, numberAt, entryAt}
 use Rattle.rows.specs.Write.{withField, withNumber}
 use Rattle.renumbering.specs.Column.{put, put-same, put-other}
 use Rattle.renumbering.specs.Numbers.{Numbers, entryOf, isReachBelow, placed}
-use Rattle.renumber.specs.Entries.{entryFrom, withEntries}
-use Rattle.renumber.specs.NumberWalk.{Written, written, spanAt, placedRow, started, rowNumbered}
+use Rattle.renumber.specs.Entries.{withEntries}
+use Rattle.renumber.specs.NumberWalk.{Written, placedRow, started, rowNumbered}
 use Rattle.growth_exact.specs.Columns.{Holds, holds-set, set-same, set-link, set-other}
 use Rattle.growth_exact.specs.EntryColumns.{above-entry, entries-hold, entries-own, entries-other}
 

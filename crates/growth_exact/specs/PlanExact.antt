@@ -1,19 +1,19 @@
 -- On a table that passes inspection a new row is planned: no refusal, and the plan's head is the head of its chain.
 use mathlib.Core.Path.{_≡_, refl, ap, sym, _∙_}
 use mathlib.Core.Bool.{Bool, true, false, _||_, _&&_, not}
-use mathlib.Core.Logic.{inl, inr, _≢_}
+use mathlib.Core.Logic.{_≢_}
 use mathlib.Core.List.{List}
-use Prim.Native.Nat.{ℕ, suc, _+_, _≤_, _<_}
-use native.Mathlib.Decide.{decLt, ℕ-discrete}
+use Prim.Native.Nat.{ℕ, suc, _≤_, _<_}
+use native.Mathlib.Decide.{ℕ-discrete}
 use native.Mathlib.Omega.{arith}
 use borrow.Author.Tests.{ne-eqb, eq-eqb, le-leb}
 use lib.Dec.{eqb}
-use lib.IntN.{ℤ, natAbs}
+use lib.IntN.{natAbs}
 use Rattle.laws.specs.Test.{pick}
 use Rattle.tree_laws.specs.Ancestor.{none}
 use Rattle.span.specs.Constants.{limit}
 use Rattle.span.specs.Numbers.{endOf, withinLimit}
-use Rattle.rows.specs.Layout.{parentPlace, firstPlace, lastPlace, nextPlace, pathPlace, depthPlace, nextFreePlace}
+use Rattle.rows.specs.Layout.{parentPlace, lastPlace, pathPlace, depthPlace, nextFreePlace}
 use Rattle.rows.specs.Row.{Parts, fieldAt, numberAt}
 use Rattle.rows.specs.Capacity.{Fits}
 use Rattle.rows.specs.Table.{Table, tableOf, parent, depth, upper}
@@ -24,20 +24,18 @@ use Rattle.growth_laws.specs.Growth.{Growth, Named, parentOf, labelOf, levelOf,
 use Rattle.growth_laws.specs.Head.{Head}
 use Rattle.growth_laws.specs.PlantedLaws.{parent-in}
 use Rattle.growth_laws.specs.Renumbered.{rows}
-use Rattle.growth_laws.specs.Trees.{own-trees, stored, recorded-depth}
+use Rattle.growth_laws.specs.Trees.{recorded-depth}
 use Rattle.renumbering.specs.Column.{put}
 use Rattle.growth.specs.declared.attach.Leaf.{Leaf}
 use Rattle.growth.specs.declared.level.Level.the-variants.{At}
-use Rattle.renumber.specs.declared.Head.{Head as PlanHead}
 use Rattle.growth.specs.declared.plan.Plan.{Plan}
-use Rattle.growth.specs.declared.plan.Planned.{Planned}
 use Rattle.growth.specs.declared.plan.Planned.the-variants.{Grow}
 use Rattle.growth.specs.Attach.{firstOf, firstAfter, nextAfter, parentAfter}
 use Rattle.growth.specs.CheckWalk.{isReadable}
 use Rattle.renumber.specs.Count.{oneMore}
 use Rattle.growth.specs.Good.{isGood}
 use Rattle.growth.specs.Level.{levelOf as levelWithin}
-use Rattle.growth.specs.Plan.{upperUnder, upperFor, leafUnder, headOf, isSeated, isWhole, plannedAt, plannedRow}
+use Rattle.growth.specs.Plan.{upperUnder, upperFor, leafUnder, headOf, isSeated, isWhole, plannedRow}
 use Rattle.growth.specs.PlanLaws.{whole, on-top}
 use Rattle.growth_exact.specs.SizeWalkExact.{more-one}
 use Rattle.growth_exact.specs.AttachExact.{Quiet, Attached}

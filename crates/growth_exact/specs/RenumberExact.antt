@@ -3,9 +3,8 @@ use mathlib.Core.Path.{_≡_, refl, _∙_}
 use mathlib.Core.Bool.{true}
 use mathlib.Core.Logic.{_≢_}
 use mathlib.Core.List.{List}
-use Prim.Native.Nat.{ℕ, _+_, _≤_, _<_}
+use Prim.Native.Nat.{ℕ, _≤_, _<_}
 use native.Mathlib.Omega.{arith}
-use Rattle.tree_laws.specs.Ancestor.{none}
 use Rattle.span.specs.Constants.{limit}
 use Rattle.rows.specs.Layout.{
   fieldStride,
@@ -36,7 +35,6 @@ use Rattle.renumber.specs.Count.{stepsOf}
 use Rattle.renumber.specs.SizeWalk.{sizeWalk}
 use Rattle.renumber.specs.NumberWalk.{Written, written, Walked}
 use Rattle.renumber.specs.Renumber.{renumbered}
-use Rattle.growth_exact.specs.Columns.{Holds}
 use Rattle.growth_exact.specs.SizeWalkExact.{Sizes, LinksIn, sizingAfter, after-true, after-held}
 use Rattle.growth_exact.specs.NumberColumns.{Numbered}
 use Rattle.growth_exact.specs.NumberWalkExact.{numbersAfter, after-numbered, after-given}

@@ -1,6 +1,6 @@
 -- The stores of a growth whose head is found: the new row is put in and the head is renumbered, so all that holds of a growth holds of them.
-use mathlib.Core.Path.{_≡_, refl, sym, _∙_}
-use mathlib.Core.Logic.{inl, inr, _≢_}
+use mathlib.Core.Path.{_≡_, sym, _∙_}
+use mathlib.Core.Logic.{_≢_}
 use Prim.Native.Nat.{ℕ, suc, _≤_, _<_}
 use native.Mathlib.Decide.{ℕ-discrete}
 use native.Mathlib.Omega.{arith}
@@ -16,24 +16,20 @@ use Rattle.rows.specs.Table.{Table, tableOf, parent, upper, size, setSize, leve
 use Rattle.rows.specs.Sound.{levelLimit}
 use Rattle.rows.specs.Rules.{Rules}
 use Rattle.numbering.specs.SoundRows.{rules-sound}
-use Rattle.growth_laws.specs.Growth.{Growth, Named, parentOf, labelOf, levelOf, rootOf}
+use Rattle.growth_laws.specs.Growth.{Growth, Named, levelOf, rootOf}
 use Rattle.growth_laws.specs.Inserted.{Inserted}
 use Rattle.growth_laws.specs.Head.{Head}
 use Rattle.growth_laws.specs.Renumbered.{rows, Renumbered}
 use Rattle.growth_laws.specs.RenumberedLaws.{head-rows as rows-size}
 use Rattle.growth_laws.specs.Grown.{Grown}
 use Rattle.growth_laws.specs.GrowthKeepsRules.{grown-planted, growth-keeps-rules}
-use Rattle.growth_laws.specs.Frame.{HeadRows}
 use Rattle.growth_laws.specs.FrameLaws.{growth-head}
 use Rattle.growth_laws.specs.SmallNumbers.{end-within}
 use Rattle.growth_laws.specs.Trees.{own-trees, parent-upper}
 use Rattle.growth.specs.declared.attach.Leaf.{Leaf}
-use Rattle.growth.specs.declared.plan.Plan.{Plan}
 use Rattle.renumber.specs.NumberWalk.{Walked}
 use Rattle.renumber.specs.Renumber.{renumbered}
-use Rattle.growth.specs.Store.{stored, storedBy}
 use Rattle.growth_exact.specs.Columns.{Holds, past}
-use Rattle.growth_exact.specs.AttachExact.{Attached}
 use Rattle.growth_exact.specs.InsertExact.{LeafOf, parts, between, attached-is, inserted}
 use Rattle.growth_exact.specs.RenumberExact.{writtenTo, writtenOf, headAt, RenumberedExactly, renumbered-exactly}
 use Rattle.growth_exact.specs.HeadExact.{head-ready, head-renumberable, head-safe}
