@@ -1,4 +1,2 @@
-pub mod Reply
-pub mod ReplyLaws
 pub mod TableCalls
 pub mod TableCallsLaws

@@ -12,7 +12,7 @@ ghost use lib.ListN.{length};
 ghost use Rattle.laws.specs.Test.{bit};
 ghost use Rattle.query.specs.Outcome.{outcomeOf as answerOf};
 ghost use Rattle.alike.specs.Outcome.{outcomeOf as comparisonOf};
-ghost use Rattle.desk.specs.Reply.{reply, madeReply, grownReply, questionReply, alikeReply, inspectionReply};
+ghost use Rattle.replies.specs.Reply.{reply, madeReply, grownReply, questionReply, alikeReply, inspectionReply};
 
 fn signed(x: u16) -> i32
     ensures { λ r. ⌜ r ≡ pos x ⌝ }

@@ -1,7 +1,7 @@
 -- `reply_made`: count and root, or a refusal's number.
 use borrow.Author.Needs.{needs}
-use Rattle.desk.proofs.answers.reply_made.Statement.{statement}
-use Rattle.desk.proofs.answers.reply_made.Tie as tie
+use Rattle.replies.proofs.reply_made.Statement.{statement}
+use Rattle.replies.proofs.reply_made.Tie as tie
 
 enum-known-made : tie.Need-enum-known-made
 enum-known-made c = search needs

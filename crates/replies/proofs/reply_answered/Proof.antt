@@ -2,8 +2,8 @@
 use mir.Syntax.{w32}
 use mir.ValLaws.{toZ-ofZ}
 use borrow.Author.Needs.{needs}
-use Rattle.desk.proofs.answers.reply_answered.Statement.{statement}
-use Rattle.desk.proofs.answers.reply_answered.Tie as tie
+use Rattle.replies.proofs.reply_answered.Statement.{statement}
+use Rattle.replies.proofs.reply_answered.Tie as tie
 
 enum-known-answered : tie.Need-enum-known-answered
 enum-known-answered c = search needs

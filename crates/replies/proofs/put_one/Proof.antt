@@ -1,9 +1,9 @@
 -- `put_one` fills an out slice of that length.
 use mathlib.Core.List.{[], _∷_}
-use Rattle.desk.specs.ReplyLaws.{sets-all}
+use Rattle.replies.specs.ReplyLaws.{sets-all}
 use borrow.Author.Needs.{needs}
-use Rattle.desk.proofs.answers.put_one.Statement.{statement}
-use Rattle.desk.proofs.answers.put_one.Tie as tie
+use Rattle.replies.proofs.put_one.Statement.{statement}
+use Rattle.replies.proofs.put_one.Tie as tie
 
 slice-write-out : tie.Need-slice-write-out
 slice-write-out c = search needs

@@ -3,8 +3,8 @@ use native.Mathlib.Omega.{arith}
 use mir.Syntax.{w32}
 use mir.ValLaws.{toZ-pos}
 use borrow.Author.Needs.{needs}
-use Rattle.desk.proofs.answers.signed.Statement.{statement}
-use Rattle.desk.proofs.answers.signed.Tie as tie
+use Rattle.replies.proofs.signed.Statement.{statement}
+use Rattle.replies.proofs.signed.Tie as tie
 
 cast-result : tie.Need-cast-result
 cast-result c = search needs

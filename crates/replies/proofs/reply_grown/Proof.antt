@@ -1,7 +1,7 @@
 -- `reply_grown`: the values of a growth, or a refusal's number.
 use borrow.Author.Needs.{needs}
-use Rattle.desk.proofs.answers.reply_grown.Statement.{statement}
-use Rattle.desk.proofs.answers.reply_grown.Tie as tie
+use Rattle.replies.proofs.reply_grown.Statement.{statement}
+use Rattle.replies.proofs.reply_grown.Tie as tie
 
 enum-known-grown : tie.Need-enum-known-grown
 enum-known-grown c = search needs

@@ -1,15 +1,15 @@
 -- `put_six` fills an out slice of that length.
 use mathlib.Core.Path.{_∙_}
 use mathlib.Core.List.{[], _∷_}
-use Rattle.desk.specs.ReplyLaws.{sets-all}
+use Rattle.replies.specs.ReplyLaws.{sets-all}
 use native.Mathlib.Omega.{arith}
 use lib.ListN.{length-set}
 use mir.Syntax.{w32}
 use mir.Val.{toZ, ofZ}
 use mir.ValLaws.{toZ-ofZ}
 use borrow.Author.Needs.{needs}
-use Rattle.desk.proofs.answers.put_six.Statement.{statement}
-use Rattle.desk.proofs.answers.put_six.Tie as tie
+use Rattle.replies.proofs.put_six.Statement.{statement}
+use Rattle.replies.proofs.put_six.Tie as tie
 
 slice-set-from-a : tie.Need-slice-set-from-a
 slice-set-from-a c = search needs

@@ -1,9 +1,9 @@
 -- `put_four` fills an out slice of that length.
 use mathlib.Core.List.{[], _∷_}
-use Rattle.desk.specs.ReplyLaws.{sets-all}
+use Rattle.replies.specs.ReplyLaws.{sets-all}
 use borrow.Author.Needs.{needs}
-use Rattle.desk.proofs.answers.put_four.Statement.{statement}
-use Rattle.desk.proofs.answers.put_four.Tie as tie
+use Rattle.replies.proofs.put_four.Statement.{statement}
+use Rattle.replies.proofs.put_four.Tie as tie
 
 slice-write-out : tie.Need-slice-write-out
 slice-write-out c = search needs

@@ -1,7 +1,7 @@
 -- `reply_inspected`: 1 or 0, or a refusal's number.
 use borrow.Author.Needs.{needs}
-use Rattle.desk.proofs.answers.reply_inspected.Statement.{statement}
-use Rattle.desk.proofs.answers.reply_inspected.Tie as tie
+use Rattle.replies.proofs.reply_inspected.Statement.{statement}
+use Rattle.replies.proofs.reply_inspected.Tie as tie
 
 enum-known-inspected : tie.Need-enum-known-inspected
 enum-known-inspected c = search needs

@@ -1,7 +1,7 @@
 -- `reply_compared`: 1 or 0, or a refusal's number.
 use borrow.Author.Needs.{needs}
-use Rattle.desk.proofs.answers.reply_compared.Statement.{statement}
-use Rattle.desk.proofs.answers.reply_compared.Tie as tie
+use Rattle.replies.proofs.reply_compared.Statement.{statement}
+use Rattle.replies.proofs.reply_compared.Tie as tie
 
 enum-known-compared : tie.Need-enum-known-compared
 enum-known-compared c = search needs
