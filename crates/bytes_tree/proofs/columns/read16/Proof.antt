@@ -1,0 +1,73 @@
+use Rattle.bytes_tree.proofs.columns.read16.Statement.{statement}
+use Rattle.bytes_tree.proofs.columns.read16.Tie as tie
+use Rattle.bytes_tree.proofs.columns.read16.Reads as reads
+use Rattle.bytes_tree.proofs.columns.read16.Lts as lts
+use Rattle.bytes_tree.proofs.word.word16.Reads as word16-reads
+
+abbrev Inv-loop : tie.InvT-loop
+Inv-loop b place part₀ i₀ part i = ?
+
+abbrev μ-loop : tie.MeasureT-loop
+μ-loop b place part₀ i₀ part i = ?
+
+-- src/columns.rt:23:5
+loop-holds : tie.Need-loop-holds Inv-loop μ-loop
+loop-holds c = ?
+
+-- src/columns.rt:24:37
+mul-word16 : tie.Need-mul-word16 Inv-loop μ-loop
+mul-word16 c = ?
+
+-- src/columns.rt:24:29
+add-word16 : tie.Need-add-word16 Inv-loop μ-loop
+add-word16 c = ?
+
+-- src/columns.rt:24:19
+word16-requires : tie.Need-word16-requires Inv-loop μ-loop
+word16-requires c κs = ?
+
+-- src/columns.rt:24:9
+mul-part : tie.Need-mul-part Inv-loop μ-loop
+mul-part c = ?
+
+-- src/columns.rt:24:9
+slice-write-part : tie.Need-slice-write-part Inv-loop μ-loop
+slice-write-part c = ?
+
+-- src/columns.rt:25:9
+add-i : tie.Need-add-i Inv-loop μ-loop
+add-i c = ?
+
+-- src/columns.rt:23:5
+loop-less : tie.Need-loop-less Inv-loop μ-loop
+loop-less c = ?
+
+-- src/columns.rt:23:5
+loop-again : tie.Need-loop-again Inv-loop μ-loop
+loop-again c = ?
+
+-- src/columns.rt:18:1
+same-length : tie.Need-same-length Inv-loop μ-loop
+same-length c = ?
+
+-- src/columns.rt:18:1
+returns : tie.Need-returns Inv-loop μ-loop
+returns c = ?
+
+pub read16-spec : {M : Type 1} → statement M
+read16-spec =
+    tie.close
+    (tie.spec
+    Inv-loop
+    μ-loop
+    loop-holds
+    mul-word16
+    add-word16
+    word16-requires
+    mul-part
+    slice-write-part
+    add-i
+    loop-less
+    loop-again
+    same-length
+    returns)

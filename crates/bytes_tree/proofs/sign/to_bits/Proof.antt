@@ -1,0 +1,32 @@
+use Rattle.bytes_tree.proofs.sign.to_bits.Statement.{statement}
+use Rattle.bytes_tree.proofs.sign.to_bits.Tie as tie
+use Rattle.bytes_tree.proofs.sign.to_bits.Reads as reads
+use Rattle.bytes_tree.proofs.sign.to_bits.Lts as lts
+
+-- src/sign.rt:18:31
+sub-result : tie.Need-sub-result
+sub-result c = ?
+
+-- src/sign.rt:18:30
+cast-result : tie.Need-cast-result
+cast-result c = ?
+
+-- src/sign.rt:18:16
+sub-result-2 : tie.Need-sub-result-2
+sub-result-2 c = ?
+
+-- src/sign.rt:18:9
+returns : tie.Need-returns
+returns c = ?
+
+-- src/sign.rt:20:5
+cast-result-2 : tie.Need-cast-result-2
+cast-result-2 c = ?
+
+-- src/sign.rt:14:1
+returns-2 : tie.Need-returns-2
+returns-2 c = ?
+
+pub to-bits-spec : {M : Type 1} → statement M
+to-bits-spec =
+    tie.close (tie.spec sub-result cast-result sub-result-2 returns cast-result-2 returns-2)

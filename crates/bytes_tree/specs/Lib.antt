@@ -1,0 +1,5 @@
+pub mod Bytes
+pub mod BytesLaws
+pub mod Sign
+pub mod Column
+pub mod ColumnLaws

@@ -1,0 +1,4 @@
+// A tree of capacity 128 as one run of bytes.
+mod columns;
+mod sign;
+mod word;
