@@ -1,12 +1,12 @@
 -- Laws of numbers as bytes, over any width.
 use mathlib.Core.Path.{_≡_, refl, ap, _∙_}
-use mathlib.Core.List.{List, [], _∷_, _++_}
+use mathlib.Core.List.{List, [], _∷_, _++_, append-nil}
 use Prim.Native.Nat.{ℕ, zero, suc, _+_, _*_, _^_, _/_, _%_, _≤_, _<_}
 use native.Mathlib.Nat.{pow-suc}
 use native.Mathlib.Omega.{arith}
 use native.Mathlib.Numerals.{add-one}
-use lib.ListN.{length, take, drop, getD, set, length-drop}
-use lib.Seq.{take-add, drop-drop, length-take-le, drop-cons, sets}
+use lib.ListN.{length, take, drop, getD, set, length-drop, drop-of-length-le}
+use lib.Seq.{take-add, drop-drop, length-take-le, drop-cons, sets, sets-eq}
 use Rattle.bytes_tree.specs.Bytes.{value, bytes, valueAt}
 
 -- Reading
@@ -49,6 +49,12 @@ length-bytes (suc w) x = ap suc (length-bytes w (x / 256))
 pub sets-join : (us vs l : List ℕ) (i : ℕ) → sets (sets l i us) (i + length us) vs ≡ sets l i (us ++ vs)
 sets-join [] vs l i = let z : i + 0 ≡ i = omega arith in rw z
 sets-join (u ∷ us) vs l i = let z : i + suc (length us) ≡ suc i + length us = omega arith in rw z (sets-join us vs (set l i u) (suc i))
+
+-- stores from the front on, as many as there are places, leave nothing of a list
+pub sets-all : {A : Type 0} (l values : List A) → length l ≡ length values → sets l 0 values ≡ values
+sets-all {A} l values e =
+    let z : 0 + length values ≡ length values = omega arith in
+    sets-eq values l 0 (omega arith) ∙ ap (λ (n : ℕ). values ++ drop n l) z ∙ ap (λ (r : List A). values ++ r) (drop-of-length-le l {i = length values} (omega arith)) ∙ append-nil values
 
 -- Round trips
 

@@ -1,4 +1,5 @@
 // A tree of capacity 128 as one run of bytes.
 mod columns;
 mod sign;
-mod word;
+pub mod tree;
+pub mod word;

@@ -1,3 +1,8 @@
+-- `to_level`: −1 − (4,294,967,295 − x) for a high x.
+use mathlib.Core.Path.{sym, _∙_}
+use mir.Syntax.{w32}
+use mir.ValLaws.{toZ-pos}
+use Rattle.bytes_tree.specs.SignLaws.{signed-low, high-fits, high}
 use borrow.Author.Needs.{needs}
 use Rattle.bytes_tree.proofs.sign.to_level.Statement.{statement}
 use Rattle.bytes_tree.proofs.sign.to_level.Tie as tie
@@ -10,7 +15,7 @@ cast-result c = search needs
 
 -- src/sign.rt:9:9
 returns : tie.Need-returns
-returns c = ?
+returns c = toZ-pos w32 (c .before .args .x) (c .if1 .taken) ∙ sym (signed-low (c .before .args .x) (c .if1 .taken))
 
 -- src/sign.rt:11:12
 sub-result : tie.Need-sub-result
@@ -22,11 +27,11 @@ cast-result-2 c = search needs
 
 -- src/sign.rt:11:5
 sub-result-2 : tie.Need-sub-result-2
-sub-result-2 c = ?
+sub-result-2 c = high-fits (c .before .args .x) (c .if1 .left)
 
 -- src/sign.rt:5:1
 returns-2 : tie.Need-returns-2
-returns-2 c = ?
+returns-2 c = high (c .before .args .x) (c .if1 .left)
 
 pub to-level-spec : {M : Type 1} → statement M
 to-level-spec =

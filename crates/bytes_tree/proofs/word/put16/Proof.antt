@@ -1,3 +1,7 @@
+-- `put16`: two bytes, low byte first.
+use native.Mathlib.Omega.{arith}
+use native.Mathlib.Numerals.{add-one}
+use lib.ListN.{length-set}
 use borrow.Author.Needs.{needs}
 use Rattle.bytes_tree.proofs.word.put16.Statement.{statement}
 use Rattle.bytes_tree.proofs.word.put16.Tie as tie
@@ -22,7 +26,7 @@ add-b c = search needs
 
 -- src/word.rt:36:5
 slice-write-b-2 : tie.Need-slice-write-b-2
-slice-write-b-2 c = ?
+slice-write-b-2 c = simp length-set (omega arith)
 
 -- src/word.rt:31:1
 same-length : tie.Need-same-length
@@ -30,7 +34,7 @@ same-length c = search needs
 
 -- src/word.rt:31:1
 returns : tie.Need-returns
-returns c = ?
+returns c = rw add-one
 
 pub put16-spec : {M : Type 1} → statement M
 put16-spec =

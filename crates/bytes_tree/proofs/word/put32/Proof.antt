@@ -1,3 +1,10 @@
+-- `put32`: two numbers of 16 bits, the low one first.
+use mathlib.Core.Path.{ap, _∙_}
+use mathlib.Core.List.{List}
+use Prim.Native.Nat.{ℕ, _+_, _/_, _%_}
+use lib.Seq.{sets}
+use Rattle.bytes_tree.specs.Bytes.{bytes}
+use Rattle.bytes_tree.specs.BytesLaws.{bytes-four, sets-join}
 use borrow.Author.Needs.{needs}
 use Rattle.bytes_tree.proofs.word.put32.Statement.{statement}
 use Rattle.bytes_tree.proofs.word.put32.Tie as tie
@@ -31,7 +38,10 @@ same-length c = search needs
 
 -- src/word.rt:39:1
 returns : tie.Need-returns
-returns c = ?
+returns c =
+    let a = c .before .before .before .before .before .before .before .before .before .args in
+    c .before .before .put162 .ensures ∙ ap (λ (l : List ℕ). sets l (a .i + 2) (bytes 2 (a .x / 65536))) (c .before .before .before .before .before .before .put16 .ensures)
+    ∙ sets-join (bytes 2 (a .x % 65536)) (bytes 2 (a .x / 65536)) (a .b .now) (a .i) ∙ ap (λ (l : List ℕ). sets (a .b .now) (a .i) l) (bytes-four (a .x))
 
 pub put32-spec : {M : Type 1} → statement M
 put32-spec =

@@ -1,3 +1,10 @@
+-- `put64`: two numbers of 32 bits, the low one first.
+use mathlib.Core.Path.{ap, _∙_}
+use mathlib.Core.List.{List}
+use Prim.Native.Nat.{ℕ, _+_, _/_, _%_}
+use lib.Seq.{sets}
+use Rattle.bytes_tree.specs.Bytes.{bytes}
+use Rattle.bytes_tree.specs.BytesLaws.{bytes-eight, sets-join}
 use borrow.Author.Needs.{needs}
 use Rattle.bytes_tree.proofs.word.put64.Statement.{statement}
 use Rattle.bytes_tree.proofs.word.put64.Tie as tie
@@ -31,7 +38,10 @@ same-length c = search needs
 
 -- src/word.rt:47:1
 returns : tie.Need-returns
-returns c = ?
+returns c =
+    let a = c .before .before .before .before .before .before .before .before .before .args in
+    c .before .before .put322 .ensures ∙ ap (λ (l : List ℕ). sets l (a .i + 4) (bytes 4 (a .x / 4294967296))) (c .before .before .before .before .before .before .put32 .ensures)
+    ∙ sets-join (bytes 4 (a .x % 4294967296)) (bytes 4 (a .x / 4294967296)) (a .b .now) (a .i) ∙ ap (λ (l : List ℕ). sets (a .b .now) (a .i) l) (bytes-eight (a .x))
 
 pub put64-spec : {M : Type 1} → statement M
 put64-spec =

@@ -1,3 +1,7 @@
+-- `word16`: two bytes, low byte first.
+use Prim.Native.Nat.{_+_}
+use native.Mathlib.Omega.{arith}
+use Rattle.bytes_tree.specs.BytesLaws.{value-two}
 use borrow.Author.Needs.{needs}
 use Rattle.bytes_tree.proofs.word.word16.Statement.{statement}
 use Rattle.bytes_tree.proofs.word.word16.Tie as tie
@@ -10,7 +14,7 @@ shared-slice-read-low c = search needs
 
 -- src/word.rt:12:15
 cast-low : tie.Need-cast-low
-cast-low c = ?
+cast-low c = omega (arith, c .shared-slice-known .given (c .before .args .i))
 
 -- src/word.rt:13:18
 add-high : tie.Need-add-high
@@ -22,19 +26,19 @@ shared-slice-read-high c = search needs
 
 -- src/word.rt:13:16
 cast-high : tie.Need-cast-high
-cast-high c = ?
+cast-high c = omega (arith, c .shared-slice-known2 .given (c .before .before .args .i + 1))
 
 -- src/word.rt:14:11
 mul-result : tie.Need-mul-result
-mul-result c = ?
+mul-result c = omega (arith, c .shared-slice-known2 .given (c .before .before .args .i + 1))
 
 -- src/word.rt:14:5
 add-result : tie.Need-add-result
-add-result c = ?
+add-result c = omega (arith, c .before .shared-slice-known .given (c .before .before .args .i), c .shared-slice-known2 .given (c .before .before .args .i + 1))
 
 -- src/word.rt:8:1
 returns : tie.Need-returns
-returns c = ?
+returns c = value-two (c .before .before .args .b .now) (c .before .before .args .i) (c .before .before .pre)
 
 pub word16-spec : {M : Type 1} → statement M
 word16-spec =

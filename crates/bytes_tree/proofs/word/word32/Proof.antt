@@ -1,3 +1,6 @@
+-- `word32`: two numbers of 16 bits, the low one first.
+use native.Mathlib.Omega.{arith}
+use Rattle.bytes_tree.specs.BytesLaws.{value-join}
 use borrow.Author.Needs.{needs}
 use Rattle.bytes_tree.proofs.word.word32.Statement.{statement}
 use Rattle.bytes_tree.proofs.word.word32.Tie as tie
@@ -35,7 +38,9 @@ add-result c = search needs
 
 -- src/word.rt:17:1
 returns : tie.Need-returns
-returns c = ?
+returns c =
+    let a = c .before .before .before .args in
+    rw (c .before .word16 .ensures, c .word162 .ensures) (omega (arith, value-join 2 2 (a .b .now) (a .i) (omega arith)))
 
 pub word32-spec : {M : Type 1} → statement M
 word32-spec =

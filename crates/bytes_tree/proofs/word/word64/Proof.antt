@@ -1,3 +1,6 @@
+-- `word64`: two numbers of 32 bits, the low one first.
+use native.Mathlib.Omega.{arith}
+use Rattle.bytes_tree.specs.BytesLaws.{value-join}
 use borrow.Author.Needs.{needs}
 use Rattle.bytes_tree.proofs.word.word64.Statement.{statement}
 use Rattle.bytes_tree.proofs.word.word64.Tie as tie
@@ -35,7 +38,9 @@ add-result c = search needs
 
 -- src/word.rt:24:1
 returns : tie.Need-returns
-returns c = ?
+returns c =
+    let a = c .before .before .before .args in
+    rw (c .before .word32 .ensures, c .word322 .ensures) (omega (arith, value-join 4 4 (a .b .now) (a .i) (omega arith)))
 
 pub word64-spec : {M : Type 1} → statement M
 word64-spec =
