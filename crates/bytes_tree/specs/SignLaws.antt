@@ -10,7 +10,7 @@ use lib.Signed.{ltZ}
 use mir.Syntax.{w32}
 use mir.Val.{toZ, ofZ, SFits}
 use mir.ValLaws.{toZ-ofZ, toZ-pos}
-use Rattle.laws.specs.Test.{Says, says-ltb, says-true, says-false}
+use Rattle.laws.specs.Test.{says-ltb, says-true, says-false}
 use Rattle.bytes_tree.specs.Sign.{signed, unsigned}
 
 pub signed-low : (x : ℕ) → x < 2147483648 → signed x ≡ pos x

@@ -3,10 +3,11 @@ use mathlib.Core.Path.{_≡_, refl, ap, sym, _∙_}
 use mathlib.Core.List.{List, _++_, map}
 use Prim.Native.Nat.{ℕ, _+_, _*_}
 use native.Mathlib.Omega.{arith}
+use lib.IntN.{ℤ}
 use lib.ListN.{length, length-append, length-map}
 use lib.Seq.{sets}
 use Rattle.rows.specs.declared.state.State.{State}
-use Rattle.rows.specs.Row.{Parts}
+use Rattle.rows.specs.Row.{Parts, partsOf}
 use Rattle.rows.specs.Capacity.{Fits}
 use Rattle.set_up.specs.Tabulate.{length-tabulate}
 use Rattle.bytes_tree.specs.Bytes.{bytes, valueAt}
@@ -35,6 +36,13 @@ parts-fit b = record {
   numbers = length-numbers 8 256 b _;
   ancestors = length-numbers 2 15616 b _;
 }
+
+-- parts that were read one by one
+pub parts-read : (b : List ℕ) (t : Parts) {f m a : List ℕ} {l : List ℤ} → Fits treeRows t
+    → f ≡ numbersAt 2 (length (t .fields)) b fieldsPlace → m ≡ numbersAt 8 (length (t .numbers)) b numbersPlace
+    → l ≡ levelsAt (length (t .levels)) b levelsPlace → a ≡ numbersAt 2 (length (t .ancestors)) b ancestorsPlace → partsOf f m l a ≡ partsIn b
+unfolding partsIn
+parts-read b t h i j k n = rw (i, j, k, n, h .fields, h .numbers, h .levels, h .ancestors)
 
 -- a tree fills its bytes
 pub length-encoded : (s : State) (t : Parts) → Fits treeRows t → length (encoded s t) ≡ treeBytes

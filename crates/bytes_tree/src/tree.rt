@@ -1,10 +1,10 @@
 // A whole tree: its count, root and parts from bytes, and back.
+use crate::columns::read_levels;
 use crate::columns::read16;
 use crate::columns::read64;
-use crate::columns::read_levels;
+use crate::columns::write_levels;
 use crate::columns::write16;
 use crate::columns::write64;
-use crate::columns::write_levels;
 use crate::word::put16;
 use crate::word::word16;
 use rows::state::State;

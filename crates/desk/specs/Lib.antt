@@ -1,2 +1,3 @@
 pub mod TableCalls
 pub mod TableCallsLaws
+pub mod TreeCalls

@@ -7,9 +7,6 @@ use Rattle.bytes_tree.specs.Bytes.{valueAt}
 use Rattle.bytes_tree.specs.Column.{numbersAt}
 use Rattle.bytes_tree.proofs.columns.read16.Statement.{statement}
 use Rattle.bytes_tree.proofs.columns.read16.Tie as tie
-use Rattle.bytes_tree.proofs.columns.read16.Reads as reads
-use Rattle.bytes_tree.proofs.columns.read16.Lts as lts
-use Rattle.bytes_tree.proofs.word.word16.Reads as word16-reads
 
 abbrev Inv-loop : tie.InvT-loop
 Inv-loop b place part₀ i₀ part i = Begun (λ k. valueAt 2 b (place + k * 2)) 0 part₀ part i
@@ -17,47 +14,36 @@ Inv-loop b place part₀ i₀ part i = Begun (λ k. valueAt 2 b (place + k * 2))
 abbrev μ-loop : tie.MeasureT-loop
 μ-loop b place part₀ i₀ part i = length part₀ - i
 
--- src/columns.rt:23:5
 loop-holds : tie.Need-loop-holds Inv-loop μ-loop
 loop-holds c = begun-none (λ k. valueAt 2 (c .before .before .args .b .now) (c .before .before .args .place + k * 2)) 0 (c .before .before .args .part .now)
 
--- src/columns.rt:24:37
 mul-word16 : tie.Need-mul-word16 Inv-loop μ-loop
 mul-word16 c = omega arith
 
--- src/columns.rt:24:29
 add-word16 : tie.Need-add-word16 Inv-loop μ-loop
 add-word16 c = omega arith
 
--- src/columns.rt:24:19
 word16-requires : tie.Need-word16-requires Inv-loop μ-loop
 word16-requires c κs = omega arith
 
--- src/columns.rt:24:9
 mul-part : tie.Need-mul-part Inv-loop μ-loop
 mul-part c = omega arith
 
--- src/columns.rt:24:9
 slice-write-part : tie.Need-slice-write-part Inv-loop μ-loop
 slice-write-part c = omega arith
 
--- src/columns.rt:25:9
 add-i : tie.Need-add-i Inv-loop μ-loop
 add-i c = omega arith
 
--- src/columns.rt:23:5
 loop-less : tie.Need-loop-less Inv-loop μ-loop
 loop-less c = omega arith
 
--- src/columns.rt:23:5
 loop-again : tie.Need-loop-again Inv-loop μ-loop
 loop-again c = begun-more (λ k. valueAt 2 (c .before .before .before .before .before .args .b .now) (c .before .before .before .before .before .args .place + k * 2)) 0 (c .before .before .before .before .before .args .part .now) (c .before .before .loop .part) (c .before .before .loop .i) (c .word16 .result) (omega arith) (c .word16 .ensures) (c .before .before .loop .inv)
 
--- src/columns.rt:18:1
 same-length : tie.Need-same-length Inv-loop μ-loop
 same-length c = c .before .loop .inv .same
 
--- src/columns.rt:18:1
 returns : tie.Need-returns Inv-loop μ-loop
 unfolding numbersAt
 returns c = begun-all (λ k. valueAt 2 (c .before .before .before .before .args .b .now) (c .before .before .before .before .args .place + k * 2)) 0 (c .before .before .before .before .args .part .now) (c .before .loop .part) (c .before .loop .i) (omega arith) (c .before .loop .inv)

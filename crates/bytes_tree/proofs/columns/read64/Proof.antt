@@ -7,9 +7,6 @@ use Rattle.bytes_tree.specs.Bytes.{valueAt}
 use Rattle.bytes_tree.specs.Column.{numbersAt}
 use Rattle.bytes_tree.proofs.columns.read64.Statement.{statement}
 use Rattle.bytes_tree.proofs.columns.read64.Tie as tie
-use Rattle.bytes_tree.proofs.columns.read64.Reads as reads
-use Rattle.bytes_tree.proofs.columns.read64.Lts as lts
-use Rattle.bytes_tree.proofs.word.word64.Reads as word64-reads
 
 abbrev Inv-loop : tie.InvT-loop
 Inv-loop b place part₀ i₀ part i = Begun (λ k. valueAt 8 b (place + k * 8)) 0 part₀ part i
@@ -17,47 +14,36 @@ Inv-loop b place part₀ i₀ part i = Begun (λ k. valueAt 8 b (place + k * 8))
 abbrev μ-loop : tie.MeasureT-loop
 μ-loop b place part₀ i₀ part i = length part₀ - i
 
--- src/columns.rt:34:5
 loop-holds : tie.Need-loop-holds Inv-loop μ-loop
 loop-holds c = begun-none (λ k. valueAt 8 (c .before .before .args .b .now) (c .before .before .args .place + k * 8)) 0 (c .before .before .args .part .now)
 
--- src/columns.rt:35:37
 mul-word64 : tie.Need-mul-word64 Inv-loop μ-loop
 mul-word64 c = omega arith
 
--- src/columns.rt:35:29
 add-word64 : tie.Need-add-word64 Inv-loop μ-loop
 add-word64 c = omega arith
 
--- src/columns.rt:35:19
 word64-requires : tie.Need-word64-requires Inv-loop μ-loop
 word64-requires c κs = omega arith
 
--- src/columns.rt:35:9
 mul-part : tie.Need-mul-part Inv-loop μ-loop
 mul-part c = omega arith
 
--- src/columns.rt:35:9
 slice-write-part : tie.Need-slice-write-part Inv-loop μ-loop
 slice-write-part c = omega arith
 
--- src/columns.rt:36:9
 add-i : tie.Need-add-i Inv-loop μ-loop
 add-i c = omega arith
 
--- src/columns.rt:34:5
 loop-less : tie.Need-loop-less Inv-loop μ-loop
 loop-less c = omega arith
 
--- src/columns.rt:34:5
 loop-again : tie.Need-loop-again Inv-loop μ-loop
 loop-again c = begun-more (λ k. valueAt 8 (c .before .before .before .before .before .args .b .now) (c .before .before .before .before .before .args .place + k * 8)) 0 (c .before .before .before .before .before .args .part .now) (c .before .before .loop .part) (c .before .before .loop .i) (c .word64 .result) (omega arith) (c .word64 .ensures) (c .before .before .loop .inv)
 
--- src/columns.rt:29:1
 same-length : tie.Need-same-length Inv-loop μ-loop
 same-length c = c .before .loop .inv .same
 
--- src/columns.rt:29:1
 returns : tie.Need-returns Inv-loop μ-loop
 unfolding numbersAt
 returns c = begun-all (λ k. valueAt 8 (c .before .before .before .before .args .b .now) (c .before .before .before .before .args .place + k * 8)) 0 (c .before .before .before .before .args .part .now) (c .before .loop .part) (c .before .loop .i) (omega arith) (c .before .loop .inv)

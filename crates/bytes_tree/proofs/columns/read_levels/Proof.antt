@@ -13,10 +13,6 @@ use Rattle.bytes_tree.specs.Sign.{signed}
 use Rattle.bytes_tree.specs.Column.{levelsAt}
 use Rattle.bytes_tree.proofs.columns.read_levels.Statement.{statement}
 use Rattle.bytes_tree.proofs.columns.read_levels.Tie as tie
-use Rattle.bytes_tree.proofs.columns.read_levels.Reads as reads
-use Rattle.bytes_tree.proofs.columns.read_levels.Lts as lts
-use Rattle.bytes_tree.proofs.sign.to_level.Reads as to-level-reads
-use Rattle.bytes_tree.proofs.word.word32.Reads as word32-reads
 
 abbrev Inv-loop : tie.InvT-loop
 Inv-loop b place part₀ i₀ part i = Begun (λ k. signed (valueAt 4 b (place + k * 4))) (pos 0) part₀ part i
@@ -24,51 +20,39 @@ Inv-loop b place part₀ i₀ part i = Begun (λ k. signed (valueAt 4 b (place +
 abbrev μ-loop : tie.MeasureT-loop
 μ-loop b place part₀ i₀ part i = length part₀ - i
 
--- src/columns.rt:45:5
 loop-holds : tie.Need-loop-holds Inv-loop μ-loop
 loop-holds c = begun-none (λ k. signed (valueAt 4 (c .before .args .b .now) (c .before .args .place + k * 4))) (pos 0) (c .before .args .part .now)
 
--- src/columns.rt:46:46
 mul-word32 : tie.Need-mul-word32 Inv-loop μ-loop
 mul-word32 c = omega arith
 
--- src/columns.rt:46:38
 add-word32 : tie.Need-add-word32 Inv-loop μ-loop
 add-word32 c = omega arith
 
--- src/columns.rt:46:28
 word32-requires : tie.Need-word32-requires Inv-loop μ-loop
 word32-requires c κs = omega arith
 
--- src/columns.rt:46:19
 to-level-requires : tie.Need-to-level-requires Inv-loop μ-loop
 to-level-requires c κs = omega arith
 
--- src/columns.rt:46:9
 mul-t10 : tie.Need-mul-t10 Inv-loop μ-loop
 mul-t10 c = omega arith
 
--- src/columns.rt:46:9
 slice-set-from-part : tie.Need-slice-set-from-part Inv-loop μ-loop
 slice-set-from-part c = omega arith
 
--- src/columns.rt:47:9
 add-i : tie.Need-add-i Inv-loop μ-loop
 add-i c = omega arith
 
--- src/columns.rt:45:5
 loop-less : tie.Need-loop-less Inv-loop μ-loop
 loop-less c = omega arith
 
--- src/columns.rt:45:5
 loop-again : tie.Need-loop-again Inv-loop μ-loop
 loop-again c = begun-more (λ k. signed (valueAt 4 (c .before .before .before .before .before .args .b .now) (c .before .before .before .before .before .args .place + k * 4))) (pos 0) (c .before .before .before .before .before .args .part .now) (c .before .before .before .loop .part) (c .before .before .before .loop .i) (toZ w32 (ofZ w32 (c .to-level .result))) (omega arith) (toZ-ofZ w32 (c .to-level .result) (record { sfits = c .to-level .ok }) ∙ c .to-level .ensures ∙ ap signed (c .before .word32 .ensures)) (c .before .before .before .loop .inv)
 
--- src/columns.rt:40:1
 same-length : tie.Need-same-length Inv-loop μ-loop
 same-length c = c .before .loop .inv .same
 
--- src/columns.rt:40:1
 returns : tie.Need-returns Inv-loop μ-loop
 unfolding levelsAt
 returns c = begun-all (λ k. signed (valueAt 4 (c .before .before .before .args .b .now) (c .before .before .before .args .place + k * 4))) (pos 0) (c .before .before .before .args .part .now) (c .before .loop .part) (c .before .loop .i) (omega arith) (c .before .loop .inv)

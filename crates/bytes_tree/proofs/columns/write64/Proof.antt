@@ -10,9 +10,6 @@ use Rattle.bytes_tree.specs.Column.{columnOf}
 use Rattle.bytes_tree.specs.ColumnLaws.{store-more}
 use Rattle.bytes_tree.proofs.columns.write64.Statement.{statement}
 use Rattle.bytes_tree.proofs.columns.write64.Tie as tie
-use Rattle.bytes_tree.proofs.columns.write64.Reads as reads
-use Rattle.bytes_tree.proofs.columns.write64.Lts as lts
-use Rattle.bytes_tree.proofs.word.put64.Reads as put64-reads
 
 abbrev Inv-loop : tie.InvT-loop
 Inv-loop b₀ place part i₀ b i = (i ≤ length part) × (b ≡ sets b₀ place (columnOf 8 (take i part)))
@@ -20,50 +17,39 @@ Inv-loop b₀ place part i₀ b i = (i ≤ length part) × (b ≡ sets b₀ plac
 abbrev μ-loop : tie.MeasureT-loop
 μ-loop b₀ place part i₀ b i = length part - i
 
--- src/columns.rt:67:5
 loop-holds : tie.Need-loop-holds Inv-loop μ-loop
 loop-holds c = (omega arith, refl)
 
--- src/columns.rt:68:26
 mul-put64 : tie.Need-mul-put64 Inv-loop μ-loop
 mul-put64 c = omega arith
 
--- src/columns.rt:68:18
 add-put64 : tie.Need-add-put64 Inv-loop μ-loop
 add-put64 c = omega arith
 
--- src/columns.rt:68:33
 mul-put64-2 : tie.Need-mul-put64-2 Inv-loop μ-loop
 mul-put64-2 c = omega arith
 
--- src/columns.rt:68:33
 shared-slice-read-put64 : tie.Need-shared-slice-read-put64 Inv-loop μ-loop
 shared-slice-read-put64 c = omega arith
 
--- src/columns.rt:68:9
 put64-requires : tie.Need-put64-requires Inv-loop μ-loop
 put64-requires c κs = omega (arith, ap length (c .before .before .before .loop .inv .1) ∙ length-sets (c .before .before .before .before .before .before .args .b .now) (c .before .before .before .before .before .before .args .place) (columnOf 8 (take (c .before .before .before .loop .i) (c .before .before .before .before .before .before .args .part .now))))
 
--- src/columns.rt:69:9
 add-i : tie.Need-add-i Inv-loop μ-loop
 add-i c = omega arith
 
--- src/columns.rt:67:5
 loop-less : tie.Need-loop-less Inv-loop μ-loop
 loop-less c = omega arith
 
--- src/columns.rt:67:5
 loop-again : tie.Need-loop-again Inv-loop μ-loop
 loop-again c =
     let a = c .before .before .before .before .before .before .before .before .before .args in
     let l = c .before .before .before .before .before .before .loop in
     (omega arith, c .before .before .put64 .ensures ∙ ap (λ (r : List ℕ). sets r (a .place + l .i * 8) (bytes 8 (getD (a .part .now) (l .i) 0))) (l .inv .1) ∙ store-more 8 (a .b .now) (a .part .now) (a .place) (l .i) (omega arith))
 
--- src/columns.rt:62:1
 same-length : tie.Need-same-length Inv-loop μ-loop
 same-length c = ap length (c .before .loop .inv .1) ∙ length-sets (c .before .before .before .before .args .b .now) (c .before .before .before .before .args .place) (columnOf 8 (take (c .before .loop .i) (c .before .before .before .before .args .part .now)))
 
--- src/columns.rt:62:1
 returns : tie.Need-returns Inv-loop μ-loop
 returns c = c .before .loop .inv .1 ∙ ap (λ (l : List ℕ). sets (c .before .before .before .before .args .b .now) (c .before .before .before .before .args .place) (columnOf 8 l)) (take-all (c .before .loop .i) (c .before .before .before .before .args .part .now) (omega arith))
 

@@ -14,10 +14,6 @@ use Rattle.bytes_tree.specs.Column.{columnOf}
 use Rattle.bytes_tree.specs.ColumnLaws.{store-more}
 use Rattle.bytes_tree.proofs.columns.write_levels.Statement.{statement}
 use Rattle.bytes_tree.proofs.columns.write_levels.Tie as tie
-use Rattle.bytes_tree.proofs.columns.write_levels.Reads as reads
-use Rattle.bytes_tree.proofs.columns.write_levels.Lts as lts
-use Rattle.bytes_tree.proofs.sign.to_bits.Reads as to-bits-reads
-use Rattle.bytes_tree.proofs.word.put32.Reads as put32-reads
 
 abbrev Inv-loop : tie.InvT-loop
 Inv-loop b₀ place part i₀ b i = (i ≤ length part) × (b ≡ sets b₀ place (columnOf 4 (take i (map unsigned part))))
@@ -25,43 +21,33 @@ Inv-loop b₀ place part i₀ b i = (i ≤ length part) × (b ≡ sets b₀ plac
 abbrev μ-loop : tie.MeasureT-loop
 μ-loop b₀ place part i₀ b i = length part - i
 
--- src/columns.rt:78:5
 loop-holds : tie.Need-loop-holds Inv-loop μ-loop
 loop-holds c = (omega arith, refl)
 
--- src/columns.rt:79:26
 mul-put32 : tie.Need-mul-put32 Inv-loop μ-loop
 mul-put32 c = omega arith
 
--- src/columns.rt:79:18
 add-put32 : tie.Need-add-put32 Inv-loop μ-loop
 add-put32 c = omega arith
 
--- src/columns.rt:79:41
 mul-to-bits : tie.Need-mul-to-bits Inv-loop μ-loop
 mul-to-bits c = omega arith
 
--- src/columns.rt:79:41
 shared-slice-copy-out-to-bits : tie.Need-shared-slice-copy-out-to-bits Inv-loop μ-loop
 shared-slice-copy-out-to-bits c = omega arith
 
--- src/columns.rt:79:33
 to-bits-requires : tie.Need-to-bits-requires Inv-loop μ-loop
 to-bits-requires c κs = omega arith
 
--- src/columns.rt:79:9
 put32-requires : tie.Need-put32-requires Inv-loop μ-loop
 put32-requires c κs = omega (arith, ap length (c .before .before .before .before .loop .inv .1) ∙ length-sets (c .before .before .before .before .before .before .args .b .now) (c .before .before .before .before .before .before .args .place) (columnOf 4 (take (c .before .before .before .before .loop .i) (map unsigned (c .before .before .before .before .before .before .args .part .now)))))
 
--- src/columns.rt:80:9
 add-i : tie.Need-add-i Inv-loop μ-loop
 add-i c = omega arith
 
--- src/columns.rt:78:5
 loop-less : tie.Need-loop-less Inv-loop μ-loop
 loop-less c = omega arith
 
--- src/columns.rt:78:5
 loop-again : tie.Need-loop-again Inv-loop μ-loop
 unfolding unsigned
 loop-again c =
@@ -72,11 +58,9 @@ loop-again c =
     let e : c .before .before .before .to-bits .result ≡ getD xs (l .i) 0 = c .before .before .before .to-bits .ensures ∙ ap unsigned (toZ-ofZ w32 (getD (a .part .now) (l .i) (pos 0)) (record { sfits = c .before .before .before .before .to-bits-arg .given })) ∙ sym (List·getD-map unsigned (a .part .now) (l .i) (pos 0)) in
     (omega arith, c .before .before .put32 .ensures ∙ ap (λ (x : ℕ). sets (l .b) (a .place + l .i * 4) (bytes 4 x)) e ∙ ap (λ (r : List ℕ). sets r (a .place + l .i * 4) (bytes 4 (getD xs (l .i) 0))) (l .inv .1) ∙ store-more 4 (a .b .now) xs (a .place) (l .i) k)
 
--- src/columns.rt:73:1
 same-length : tie.Need-same-length Inv-loop μ-loop
 same-length c = ap length (c .before .loop .inv .1) ∙ length-sets (c .before .before .before .args .b .now) (c .before .before .before .args .place) (columnOf 4 (take (c .before .loop .i) (map unsigned (c .before .before .before .args .part .now))))
 
--- src/columns.rt:73:1
 returns : tie.Need-returns Inv-loop μ-loop
 returns c = c .before .loop .inv .1 ∙ ap (λ (l : List ℕ). sets (c .before .before .before .args .b .now) (c .before .before .before .args .place) (columnOf 4 l)) (take-all (c .before .loop .i) (map unsigned (c .before .before .before .args .part .now)) (rw length-map (omega arith)))
 

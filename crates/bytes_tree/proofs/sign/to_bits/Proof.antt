@@ -3,30 +3,22 @@ use native.Mathlib.Omega.{arith}
 use Rattle.bytes_tree.specs.SignLaws.{below, not-below}
 use Rattle.bytes_tree.proofs.sign.to_bits.Statement.{statement}
 use Rattle.bytes_tree.proofs.sign.to_bits.Tie as tie
-use Rattle.bytes_tree.proofs.sign.to_bits.Reads as reads
-use Rattle.bytes_tree.proofs.sign.to_bits.Lts as lts
 
--- src/sign.rt:18:31
 sub-result : tie.Need-sub-result
 sub-result c = below (c .before .args .z) (c .before .fits .z) (c .if1 .taken) .fits
 
--- src/sign.rt:18:30
 cast-result : tie.Need-cast-result
 cast-result c = let k = below (c .before .args .z) (c .before .fits .z) (c .if1 .taken) in rw (k .flipped) (tt, record { fits = omega arith })
 
--- src/sign.rt:18:16
 sub-result-2 : tie.Need-sub-result-2
 sub-result-2 c = let k = below (c .before .args .z) (c .before .fits .z) (c .if1 .taken) in rw (k .flipped) (omega arith)
 
--- src/sign.rt:18:9
 returns : tie.Need-returns
 returns c = let k = below (c .before .args .z) (c .before .fits .z) (c .if1 .taken) in rw (k .flipped) (k .bits)
 
--- src/sign.rt:20:5
 cast-result-2 : tie.Need-cast-result-2
 cast-result-2 c = let k = not-below (c .before .args .z) (c .before .fits .z) (c .if1 .left) in rw (k .kept) (tt, record { fits = omega arith })
 
--- src/sign.rt:14:1
 returns-2 : tie.Need-returns-2
 returns-2 c = let k = not-below (c .before .args .z) (c .before .fits .z) (c .if1 .left) in rw (k .kept) (k .bits)
 

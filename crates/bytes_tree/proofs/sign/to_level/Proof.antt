@@ -6,30 +6,22 @@ use Rattle.bytes_tree.specs.SignLaws.{signed-low, high-fits, high}
 use borrow.Author.Needs.{needs}
 use Rattle.bytes_tree.proofs.sign.to_level.Statement.{statement}
 use Rattle.bytes_tree.proofs.sign.to_level.Tie as tie
-use Rattle.bytes_tree.proofs.sign.to_level.Reads as reads
-use Rattle.bytes_tree.proofs.sign.to_level.Lts as lts
 
--- src/sign.rt:9:16
 cast-result : tie.Need-cast-result
 cast-result c = search needs
 
--- src/sign.rt:9:9
 returns : tie.Need-returns
 returns c = toZ-pos w32 (c .before .args .x) (c .if1 .taken) ∙ sym (signed-low (c .before .args .x) (c .if1 .taken))
 
--- src/sign.rt:11:12
 sub-result : tie.Need-sub-result
 sub-result c = search needs
 
--- src/sign.rt:11:11
 cast-result-2 : tie.Need-cast-result-2
 cast-result-2 c = search needs
 
--- src/sign.rt:11:5
 sub-result-2 : tie.Need-sub-result-2
 sub-result-2 c = high-fits (c .before .args .x) (c .if1 .left)
 
--- src/sign.rt:5:1
 returns-2 : tie.Need-returns-2
 returns-2 c = high (c .before .args .x) (c .if1 .left)
 

@@ -5,34 +5,25 @@ use lib.ListN.{length-set}
 use borrow.Author.Needs.{needs}
 use Rattle.bytes_tree.proofs.word.put16.Statement.{statement}
 use Rattle.bytes_tree.proofs.word.put16.Tie as tie
-use Rattle.bytes_tree.proofs.word.put16.Reads as reads
-use Rattle.bytes_tree.proofs.word.put16.Lts as lts
 
--- src/word.rt:35:12
 cast-b : tie.Need-cast-b
 cast-b c = search needs
 
--- src/word.rt:35:5
 slice-write-b : tie.Need-slice-write-b
 slice-write-b c = search needs
 
--- src/word.rt:36:16
 cast-b-2 : tie.Need-cast-b-2
 cast-b-2 c = search needs
 
--- src/word.rt:36:7
 add-b : tie.Need-add-b
 add-b c = search needs
 
--- src/word.rt:36:5
 slice-write-b-2 : tie.Need-slice-write-b-2
 slice-write-b-2 c = simp length-set (omega arith)
 
--- src/word.rt:31:1
 same-length : tie.Need-same-length
 same-length c = search needs
 
--- src/word.rt:31:1
 returns : tie.Need-returns
 returns c = rw add-one
 

@@ -8,35 +8,25 @@ use Rattle.bytes_tree.specs.BytesLaws.{bytes-eight, sets-join}
 use borrow.Author.Needs.{needs}
 use Rattle.bytes_tree.proofs.word.put64.Statement.{statement}
 use Rattle.bytes_tree.proofs.word.put64.Tie as tie
-use Rattle.bytes_tree.proofs.word.put64.Reads as reads
-use Rattle.bytes_tree.proofs.word.put64.Lts as lts
-use Rattle.bytes_tree.proofs.word.put32.Reads as put32-reads
 
--- src/word.rt:51:17
 cast-put32 : tie.Need-cast-put32
 cast-put32 c = search needs
 
--- src/word.rt:51:5
 put32-requires : tie.Need-put32-requires
 put32-requires c κs = search needs
 
--- src/word.rt:52:14
 add-put32 : tie.Need-add-put32
 add-put32 c = search needs
 
--- src/word.rt:52:21
 cast-put32-2 : tie.Need-cast-put32-2
 cast-put32-2 c = search needs
 
--- src/word.rt:52:5
 put32-requires-2 : tie.Need-put32-requires-2
 put32-requires-2 c κs = search needs
 
--- src/word.rt:47:1
 same-length : tie.Need-same-length
 same-length c = search needs
 
--- src/word.rt:47:1
 returns : tie.Need-returns
 returns c =
     let a = c .before .before .before .before .before .before .before .before .before .args in

@@ -5,38 +5,28 @@ use Rattle.bytes_tree.specs.BytesLaws.{value-two}
 use borrow.Author.Needs.{needs}
 use Rattle.bytes_tree.proofs.word.word16.Statement.{statement}
 use Rattle.bytes_tree.proofs.word.word16.Tie as tie
-use Rattle.bytes_tree.proofs.word.word16.Reads as reads
-use Rattle.bytes_tree.proofs.word.word16.Lts as lts
 
--- src/word.rt:12:15
 shared-slice-read-low : tie.Need-shared-slice-read-low
 shared-slice-read-low c = search needs
 
--- src/word.rt:12:15
 cast-low : tie.Need-cast-low
 cast-low c = omega (arith, c .shared-slice-known .given (c .before .args .i))
 
--- src/word.rt:13:18
 add-high : tie.Need-add-high
 add-high c = search needs
 
--- src/word.rt:13:16
 shared-slice-read-high : tie.Need-shared-slice-read-high
 shared-slice-read-high c = search needs
 
--- src/word.rt:13:16
 cast-high : tie.Need-cast-high
 cast-high c = omega (arith, c .shared-slice-known2 .given (c .before .before .args .i + 1))
 
--- src/word.rt:14:11
 mul-result : tie.Need-mul-result
 mul-result c = omega (arith, c .shared-slice-known2 .given (c .before .before .args .i + 1))
 
--- src/word.rt:14:5
 add-result : tie.Need-add-result
 add-result c = omega (arith, c .before .shared-slice-known .given (c .before .before .args .i), c .shared-slice-known2 .given (c .before .before .args .i + 1))
 
--- src/word.rt:8:1
 returns : tie.Need-returns
 returns c = value-two (c .before .before .args .b .now) (c .before .before .args .i) (c .before .before .pre)
 

@@ -4,39 +4,28 @@ use Rattle.bytes_tree.specs.BytesLaws.{value-join}
 use borrow.Author.Needs.{needs}
 use Rattle.bytes_tree.proofs.word.word32.Statement.{statement}
 use Rattle.bytes_tree.proofs.word.word32.Tie as tie
-use Rattle.bytes_tree.proofs.word.word32.Reads as reads
-use Rattle.bytes_tree.proofs.word.word32.Lts as lts
-use Rattle.bytes_tree.proofs.word.word16.Reads as word16-reads
 
--- src/word.rt:21:6
 word16-requires : tie.Need-word16-requires
 word16-requires c κs = search needs
 
--- src/word.rt:21:6
 cast-result : tie.Need-cast-result
 cast-result c = search needs
 
--- src/word.rt:21:40
 add-word16 : tie.Need-add-word16
 add-word16 c = search needs
 
--- src/word.rt:21:30
 word16-requires-2 : tie.Need-word16-requires-2
 word16-requires-2 c κs = search needs
 
--- src/word.rt:21:30
 cast-result-2 : tie.Need-cast-result-2
 cast-result-2 c = search needs
 
--- src/word.rt:21:29
 mul-result : tie.Need-mul-result
 mul-result c = search needs
 
--- src/word.rt:21:5
 add-result : tie.Need-add-result
 add-result c = search needs
 
--- src/word.rt:17:1
 returns : tie.Need-returns
 returns c =
     let a = c .before .before .before .args in

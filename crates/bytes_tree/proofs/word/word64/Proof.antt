@@ -4,39 +4,28 @@ use Rattle.bytes_tree.specs.BytesLaws.{value-join}
 use borrow.Author.Needs.{needs}
 use Rattle.bytes_tree.proofs.word.word64.Statement.{statement}
 use Rattle.bytes_tree.proofs.word.word64.Tie as tie
-use Rattle.bytes_tree.proofs.word.word64.Reads as reads
-use Rattle.bytes_tree.proofs.word.word64.Lts as lts
-use Rattle.bytes_tree.proofs.word.word32.Reads as word32-reads
 
--- src/word.rt:28:6
 word32-requires : tie.Need-word32-requires
 word32-requires c κs = search needs
 
--- src/word.rt:28:6
 cast-result : tie.Need-cast-result
 cast-result c = search needs
 
--- src/word.rt:28:40
 add-word32 : tie.Need-add-word32
 add-word32 c = search needs
 
--- src/word.rt:28:30
 word32-requires-2 : tie.Need-word32-requires-2
 word32-requires-2 c κs = search needs
 
--- src/word.rt:28:30
 cast-result-2 : tie.Need-cast-result-2
 cast-result-2 c = search needs
 
--- src/word.rt:28:29
 mul-result : tie.Need-mul-result
 mul-result c = search needs
 
--- src/word.rt:28:5
 add-result : tie.Need-add-result
 add-result c = search needs
 
--- src/word.rt:24:1
 returns : tie.Need-returns
 returns c =
     let a = c .before .before .before .args in
