@@ -1,4 +1,4 @@
-/* A C host of the library: plays a log through the table form, prints what each call gave, and checks the refusals of a host.
+/* A C host of the library: plays a log through the table form and through byte trees, prints what each call gave, and checks the refusals of a host.
  * What it writes is held against client/expected. */
 #include "vundreli.h"
 
@@ -95,6 +95,58 @@ static unsigned table_query(unsigned x, unsigned y, struct answer *a) {
     return refusal;
 }
 
+/* ---- byte trees */
+
+static uint8_t tree[NCA_TREE_BYTES];
+
+/* The places of the columns. */
+enum { FIELDS = 4, NUMBERS = 2564, LEVELS = 4612, ANCESTORS = 5124 };
+
+static unsigned little_endian(const uint8_t *b) { return b[0] + 256u * b[1]; }
+
+/* 4 bytes in two's complement. */
+static long signed_at(const uint8_t *b) {
+    long x = (long)(little_endian(b) + 65536ul * little_endian(b + 2));
+    return x < 2147483648l ? x : x - 4294967296l;
+}
+
+static unsigned tree_set_up(void) { return nca_set_up(tree, NCA_TREE_BYTES); }
+
+static void tree_grown(const uint8_t out[4], struct growth *g) {
+    g->node = little_endian(out);
+    g->rows = little_endian(out + 2);
+    g->level = (int)signed_at(tree + LEVELS + 4 * g->node);
+}
+
+static unsigned tree_add_leaf(unsigned parent, unsigned label, struct growth *g) {
+    uint8_t out[4];
+    unsigned refusal = nca_add_leaf(tree, NCA_TREE_BYTES, (uint16_t)parent, (uint16_t)label, out, 4);
+    if (refusal == 0)
+        tree_grown(out, g);
+    return refusal;
+}
+
+static unsigned tree_add_root(struct growth *g) {
+    uint8_t out[4];
+    unsigned refusal = nca_add_root(tree, NCA_TREE_BYTES, out, 4);
+    if (refusal == 0)
+        tree_grown(out, g);
+    return refusal;
+}
+
+static unsigned tree_query(unsigned x, unsigned y, struct answer *a) {
+    uint8_t out[16];
+    unsigned refusal = nca_query(tree, NCA_TREE_BYTES, (uint16_t)x, (uint16_t)y, out, 16);
+    if (refusal == 0) {
+        for (int i = 0; i < 3; i++)
+            a->values[i] = (long)little_endian(out + 2 * i);
+        a->values[3] = signed_at(out + 6);
+        a->values[4] = signed_at(out + 10);
+        a->values[5] = (long)little_endian(out + 14);
+    }
+    return refusal;
+}
+
 /* ---- any form */
 
 struct form {
@@ -105,6 +157,7 @@ struct form {
 };
 
 static const struct form TABLE = {table_set_up, table_add_leaf, table_add_root, table_query};
+static const struct form TREE = {tree_set_up, tree_add_leaf, tree_add_root, tree_query};
 
 static unsigned big_endian(const uint8_t *b) { return 256u * b[0] + b[1]; }
 
@@ -156,6 +209,8 @@ static void fill(const struct form *f) {
 
 static unsigned table_count(void) { return table.count; }
 
+static unsigned tree_count(void) { return little_endian(tree); }
+
 static void table_calls(void) {
     uint16_t out[4] = {9, 9, 9, 9}, yes = 9;
     struct table before = table;
@@ -170,10 +225,61 @@ static void table_calls(void) {
     table.levels[1] -= 1;
 }
 
+static void tree_calls(void) {
+    static uint8_t before[NCA_TREE_BYTES];
+    uint8_t out[16];
+    memset(out, 9, sizeof out);
+    memcpy(before, tree, sizeof tree);
+    expect(nca_set_up(tree, NCA_TREE_BYTES - 1) == NCA_MISFIT, "a short tree is a misfit");
+    expect(nca_add_leaf(tree, NCA_TREE_BYTES - 1, 0, 1, out, 4) == NCA_MISFIT, "a short tree is a misfit of a leaf");
+    expect(nca_add_leaf(tree, NCA_TREE_BYTES, 0, 1, out, 3) == NCA_MISFIT, "a short out slice is a misfit");
+    expect(nca_add_leaf(tree, NCA_TREE_BYTES, 0, 0, out, 4) == NCA_BAD_LABEL, "a label of 0 is refused");
+    expect(nca_query(tree, NCA_TREE_BYTES, 0, NCA_NONE, out, 16) == NCA_UNKNOWN_NODE, "an unknown node is refused");
+    expect(out[0] == 9 && out[15] == 9 && memcmp(before, tree, sizeof tree) == 0, "a refusal changes nothing");
+    tree[2] = 200; /* a root that is no node */
+    expect(nca_query(tree, NCA_TREE_BYTES, 0, 1, out, 16) == NCA_CORRUPT, "a tree that these calls did not leave is refused");
+    tree[2] = before[2];
+}
+
+/* Both forms grow and answer alike, to the last node, and the tree holds what the table holds. */
+static void compare(void) {
+    struct growth g = {0, 0, 0}, h = {0, 0, 0};
+    struct answer a = {{0}}, b = {{0}};
+    unsigned seed = 1;
+    expect(table_set_up() == 0 && tree_set_up() == 0, "set-up is served");
+    for (unsigned n = 0; n < CAPACITY + 2; n++) {
+        unsigned parent, label, x, y, r, q;
+        seed = seed * 1103515245u + 12345u;
+        parent = seed / 65536u % (n + 1);
+        label = seed / 256u % 10002u;
+        r = n % 7 == 0 ? table_add_root(&g) : table_add_leaf(parent, label, &g);
+        q = n % 7 == 0 ? tree_add_root(&h) : tree_add_leaf(parent, label, &h);
+        expect(r == q && memcmp(&g, &h, sizeof g) == 0, "both forms grow alike");
+        x = seed / 4096u % (n + 1);
+        y = seed / 1024u % (n + 1);
+        r = table_query(x, y, &a);
+        q = tree_query(x, y, &b);
+        expect(r == q && memcmp(&a, &b, sizeof a) == 0, "both forms answer alike");
+        expect(tree_count() == table.count && little_endian(tree + 2) == table.root, "count and root are the same");
+    }
+    for (unsigned i = 0; i < 10 * CAPACITY; i++)
+        expect(little_endian(tree + FIELDS + 2 * i) == table.fields[i], "the fields are the same");
+    for (unsigned i = 0; i < 8 * 2 * CAPACITY; i++)
+        expect(tree[NUMBERS + i] == (table.numbers[i / 8] >> 8 * (i % 8)) % 256, "the numbers are the same");
+    for (unsigned i = 0; i < CAPACITY; i++)
+        expect(signed_at(tree + LEVELS + 4 * i) == table.levels[i], "the levels are the same");
+    for (unsigned i = 0; i < 122 * CAPACITY; i++)
+        expect(little_endian(tree + ANCESTORS + 2 * i) == table.ancestors[i], "the ancestor entries are the same");
+}
+
 int main(void) {
     play(&TABLE, table_count);
     table_calls();
     fill(&TABLE);
+    play(&TREE, tree_count);
+    tree_calls();
+    fill(&TREE);
+    compare();
     printf("%d failed\n", failures);
     return failures != 0;
 }

@@ -67,6 +67,22 @@ uint16_t nca_table_inspect(const uint16_t *fields, size_t fields_len, const uint
                            uint16_t count, uint16_t root,
                            uint16_t *out, size_t out_len);
 
+/* Byte trees. A tree of capacity 128 is one run of NCA_TREE_BYTES bytes, with its count and root in it; 16-bit numbers low byte first.
+ * The outcomes are those of the table form. A tree or an out slice of another length is a misfit. */
+#define NCA_TREE_BYTES 36356
+
+/* An empty tree. */
+uint16_t nca_set_up(uint8_t *tree, size_t tree_len);
+
+/* A new leaf. out (4 bytes): the new node (2), rows renumbered (2). */
+uint16_t nca_add_leaf(uint8_t *tree, size_t tree_len, uint16_t parent, uint16_t label, uint8_t *out, size_t out_len);
+
+/* A new root over the present one, or the first node. out (4 bytes): the new node (2), rows renumbered (2). */
+uint16_t nca_add_root(uint8_t *tree, size_t tree_len, uint8_t *out, size_t out_len);
+
+/* out (16 bytes): the nearest common ancestor (2), the branches towards x (2) and y (2), the distances of x (4) and y (4) from it, its label (2). */
+uint16_t nca_query(const uint8_t *tree, size_t tree_len, uint16_t x, uint16_t y, uint8_t *out, size_t out_len);
+
 #ifdef __cplusplus
 }
 #endif
