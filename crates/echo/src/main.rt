@@ -1,0 +1,4 @@
+// The log program (01, "Program and figures to check").
+mod reply;
+
+fn main() {}
