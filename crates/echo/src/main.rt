@@ -1,4 +1,5 @@
 // The log program (01, "Program and figures to check").
 mod reply;
+mod serve;
 
 fn main() {}
