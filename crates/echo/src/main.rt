@@ -1,5 +1,6 @@
 // The log program (01, "Program and figures to check").
 mod reply;
 mod serve;
+mod turn;
 
 fn main() {}

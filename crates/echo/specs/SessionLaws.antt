@@ -1,0 +1,36 @@
+-- Lines as the code writes them are those of the session.
+use mathlib.Core.Path.{_≡_, ap, _∙_}
+use mathlib.Core.Bool.{true, not}
+use mathlib.Core.List.{List}
+use Prim.Native.Nat.{ℕ, _+_, _-_}
+use lib.Dec.{eqb}
+use lib.ListN.{length, take, replicate}
+use lib.Seq.{take-append-seam}
+use Rattle.lines.specs.declared.Text.{Text}
+use Rattle.lines.specs.Text.{textOf}
+use Rattle.lines.specs.Line.{lineOf}
+use Rattle.rows.specs.Row.{Parts}
+use Rattle.echo.specs.declared.reply.Shown.{Shown}
+use Rattle.echo.specs.declared.serve.Served.{Served}
+use Rattle.echo.specs.declared.turn.Reading.{Reading}
+use Rattle.echo.specs.Printed.{printedOf, refusal}
+use Rattle.echo.specs.Report.{reportOf}
+use Rattle.echo.specs.Session.{printedLine, reported, refusedField, sessionOf, written, turnOf}
+
+-- a text's bytes are its line
+pub written-text : (text : Text) (line : List ℕ) → text ≡ textOf line → written text ≡ line
+unfolding textOf
+written-text text line e = rw e (take-append-seam line (replicate (96 - length line) 0))
+
+module _ (t : Parts) (text : Text) (r : Reading) (next : ℕ) where
+  pub served-step : (served : Served)
+      → text ≡ textOf (lineOf (r .ordinal) (served .shown .letter) (take (served .shown .count) (served .shown .values)))
+      → turnOf t (record { text = text; reading = record { place = next; ordinal = r .ordinal + 1; total = r .total + served .rows; state = served .state; on = true } })
+      ≡ reported (r .ordinal) (r .total) next (reportOf t served)
+  served-step served e = rw (written-text text _ e)
+
+  pub refused-step : (n : ℕ) (shown : Shown) → printedOf shown ≡ refusal n
+      → text ≡ textOf (lineOf (r .ordinal) (shown .letter) (take (shown .count) (shown .values)))
+      → turnOf t (record { text = text; reading = record { place = next; ordinal = r .ordinal + 1; total = r .total; state = r .state; on = not (eqb n 8) } })
+      ≡ refusedField (sessionOf t r) n next
+  refused-step n shown p e = rw (written-text text _ e ∙ ap (printedLine (r .ordinal)) p)
