@@ -116,3 +116,58 @@ fn served_turn(reading: Reading, served: Served, next: usize) -> Turn
         },
     }
 }
+
+// The next field of the log, served on the tables.
+pub fn take_turn(
+    log: &[u8],
+    fields: &mut [u16],
+    numbers: &mut [u64],
+    levels: &mut [i32],
+    ancestors: &mut [u16],
+    scratch: &[u16],
+    reading: Reading,
+) -> Turn
+    requires { ⌜ Small reading ⌝ }
+    ensures step { λ r. ⌜ turnOf (partsOf (now (fields .exit)) (now (numbers .exit)) (now (levels .exit)) (now (ancestors .exit))) r ≡ stepOf (now (log .entry)) (now (scratch .entry)) (sessionOf (partsOf (now (fields .entry)) (now (numbers .entry)) (now (levels .entry)) (now (ancestors .entry))) reading) ⌝ }
+    ensures grows { λ r. ⌜ Grows reading r ⌝ }
+{
+    let state = reading.state;
+    let found = field_at(log, reading.place);
+    match found {
+        Field::End => end_turn(reading),
+        Field::BadTag(next) => refused_turn(reading, 6, next),
+        Field::BadLength(next) => refused_turn(reading, 7, next),
+        Field::Truncated(next) => refused_turn(reading, 8, next),
+        Field::DirtyFiller(next) => refused_turn(reading, 9, next),
+        Field::Filler(next) => filler_turn(reading, next),
+        Field::Leaf {
+            parent,
+            label,
+            next,
+        } => {
+            let served = serve_leaf(
+                fields,
+                numbers,
+                levels,
+                ancestors,
+                scratch,
+                state,
+                parent,
+                label,
+            );
+            served_turn(reading, served, next)
+        }
+        Field::Root(next) => {
+            let served = serve_root(fields, numbers, levels, ancestors, scratch, state);
+            served_turn(reading, served, next)
+        }
+        Field::Question { x, y, next } => {
+            let served = serve_question(fields, numbers, levels, ancestors, state, x, y);
+            served_turn(reading, served, next)
+        }
+        Field::Alike { x, y, next } => {
+            let served = serve_alike(fields, numbers, levels, ancestors, state, x, y);
+            served_turn(reading, served, next)
+        }
+    }
+}

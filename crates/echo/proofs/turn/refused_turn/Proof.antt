@@ -19,9 +19,10 @@ add-t8 : tie.Need-add-t8
 add-t8 c = search needs
 
 returns : tie.Need-returns
-returns c = let a = c .before .before .before .before .before .args in let l = c .before .line .ensures in
-    (λ t. refused-step t (c .before .line .result) (a .reading) (a .next) (a .n) (c .before .before .before .refused .result) (c .before .before .before .refused .ensures) (l .0),
-    record { text = l .1; ordinal = omega arith; total = omega arith })
+returns c = let a = c .before .before .before .before .before .args in let l = c .before .line .ensures in (
+  λ t. refused-step t (c .before .line .result) (a .reading) (a .next) (a .n) (c .before .before .before .refused .result) (c .before .before .before .refused .ensures) (l .0),
+  record { text = l .1; ordinal = omega arith; total = omega arith },
+)
 
 pub refused-turn-spec : {M : Type 1} → statement M
 refused-turn-spec = tie.close (tie.spec refused-requires line-requires add-t8 returns)

@@ -21,9 +21,10 @@ add-t10 : tie.Need-add-t10
 add-t10 c = search needs
 
 returns : tie.Need-returns
-returns c = let a = c .before .before .before .before .before .before .before .args in let l = c .before .before .before .line .ensures in
-    (λ t. served-step t (c .before .before .before .line .result) (a .reading) (a .next) (a .served) (l .0),
-    record { text = l .1; ordinal = omega arith; total = omega (arith, c .before .struct-known2 .given .0) })
+returns c = let a = c .before .before .before .before .before .before .before .args in let l = c .before .before .before .line .ensures in (
+  λ t. served-step t (c .before .before .before .line .result) (a .reading) (a .next) (a .served) (l .0),
+  record { text = l .1; ordinal = omega arith; total = omega (arith, c .before .struct-known2 .given .0) },
+)
 
 pub served-turn-spec : {M : Type 1} → statement M
 served-turn-spec = tie.close (tie.spec line-requires add-t8 cast-t9 add-t10 returns)
