@@ -5,3 +5,6 @@ pub mod ReportLaws
 pub mod Session
 pub mod SessionLaws
 pub mod Bounds
+pub mod Transcript
+pub mod PlaceLaws
+pub mod TranscriptLaws

@@ -2,9 +2,10 @@
 use mathlib.Core.Path.{_≡_, sym, ap, _∙_}
 use mathlib.Core.Bool.{true, not}
 use mathlib.Core.List.{List}
-use Prim.Native.Nat.{ℕ, _+_, _-_}
+use Prim.Native.Nat.{ℕ, _+_, _-_, _≤_}
 use lib.Dec.{eqb}
-use lib.ListN.{length, take, replicate}
+use native.Mathlib.Omega.{arith}
+use lib.ListN.{length, take, replicate, length-append}
 use lib.Seq.{take-append-seam}
 use Rattle.lines.specs.declared.Text.{Text}
 use Rattle.lines.specs.Text.{textOf}
@@ -17,6 +18,7 @@ use Rattle.echo.specs.declared.reply.Shown.{Shown}
 use Rattle.echo.specs.declared.serve.Served.{Served}
 use Rattle.echo.specs.declared.turn.Reading.{Reading}
 use Rattle.echo.specs.Printed.{printedOf, refusal}
+use Rattle.echo.specs.Bounds.{Holds}
 use Rattle.echo.specs.Report.{Report, reportOf}
 use Rattle.echo.specs.Session.{Session, Step, printedLine, reported, refusedField, stepBy, stepOf, sessionOf, written, turnOf}
 
@@ -24,6 +26,11 @@ use Rattle.echo.specs.Session.{Session, Step, printedLine, reported, ref
 pub written-text : (text : Text) (line : List ℕ) → text ≡ textOf line → written text ≡ line
 unfolding textOf
 written-text text line e = rw e (take-append-seam line (replicate (96 - length line) 0))
+
+pub text-holds : (text : Text) (line : List ℕ) → (text ≡ textOf line) × (text .len ≤ 96) → Holds text
+unfolding textOf
+text-holds text line h =
+    record { most = h .1; bytes = rw (h .0) (omega (arith, length-append line (replicate (96 - length line) 0))) }
 
 module _ (t : Parts) (text : Text) (r : Reading) (next : ℕ) where
   pub served-step : (served : Served)

@@ -1,4 +1,5 @@
 // The log program (01, "Program and figures to check").
+mod page;
 mod reply;
 mod serve;
 mod turn;

@@ -1,7 +1,6 @@
 -- `take_turn` goes by the case of the field.
 use mathlib.Core.Path.{refl, _∙_}
 use Rattle.rows.specs.Row.{partsOf}
-
 use Rattle.echo.specs.Session.{sessionOf}
 use Rattle.echo.specs.SessionLaws.{step-from, served-from}
 use borrow.Author.Needs.{needs}
@@ -131,9 +130,11 @@ same-length-4 : tie.Need-same-length-4
 same-length-4 c = search needs
 
 returns-7 : tie.Need-returns-7
-returns-7 c = let a = c .before .before .before .before .before .before .before .before .before .before .before .before .before .before .before .before .before .before .before .before .before .before .before .args in let t = (partsOf (a .fields .now) (a .numbers .now) (a .levels .now) (a .ancestors .now)) in
-    (served-from (a .log .now) (a .scratch .now) (sessionOf t (a .reading)) (c .before .before .before .before .before .before .before .before .before .before .before .before .before .before .before .before .field-at .result) (c .before .before .before .before .before .before .before .before .before .before .before .before .before .before .before .before .field-at .ensures) _ (c .before .before .before .before .before .before .before .before .before .before .before .before .before .before .found6 .given .1) refl
-    (c .served-turn .ensures .0 _) (c .before .before .before .before .before .before .before .before .serve-leaf .ensures), c .served-turn .ensures .1)
+returns-7 c = let a = c .before .before .before .before .before .before .before .before .before .before .before .before .before .before .before .before .before .before .before .before .before .before .before .args in let t = (partsOf (a .fields .now) (a .numbers .now) (a .levels .now) (a .ancestors .now)) in (
+  served-from (a .log .now) (a .scratch .now) (sessionOf t (a .reading)) (c .before .before .before .before .before .before .before .before .before .before .before .before .before .before .before .before .field-at .result) (c .before .before .before .before .before .before .before .before .before .before .before .before .before .before .before .before .field-at .ensures) _ (c .before .before .before .before .before .before .before .before .before .before .before .before .before .before .found6 .given .1) refl
+      (c .served-turn .ensures .0 _) (c .before .before .before .before .before .before .before .before .serve-leaf .ensures),
+  c .served-turn .ensures .1,
+)
 
 same-length-5 : tie.Need-same-length-5
 same-length-5 c = search needs
@@ -148,9 +149,11 @@ same-length-8 : tie.Need-same-length-8
 same-length-8 c = search needs
 
 returns-8 : tie.Need-returns-8
-returns-8 c = let a = c .before .before .before .before .before .before .before .before .before .before .before .before .before .before .before .before .before .before .before .before .before .before .before .args in let t = (partsOf (a .fields .now) (a .numbers .now) (a .levels .now) (a .ancestors .now)) in
-    (served-from (a .log .now) (a .scratch .now) (sessionOf t (a .reading)) (c .before .before .before .before .before .before .before .before .before .before .before .before .before .before .before .before .field-at .result) (c .before .before .before .before .before .before .before .before .before .before .before .before .before .before .before .before .field-at .ensures) _ (c .before .before .before .before .before .before .before .before .before .before .before .before .before .before .found7 .given .1) refl
-    (c .served-turn2 .ensures .0 _) (c .before .before .before .before .before .before .before .before .serve-root .ensures), c .served-turn2 .ensures .1)
+returns-8 c = let a = c .before .before .before .before .before .before .before .before .before .before .before .before .before .before .before .before .before .before .before .before .before .before .before .args in let t = (partsOf (a .fields .now) (a .numbers .now) (a .levels .now) (a .ancestors .now)) in (
+  served-from (a .log .now) (a .scratch .now) (sessionOf t (a .reading)) (c .before .before .before .before .before .before .before .before .before .before .before .before .before .before .before .before .field-at .result) (c .before .before .before .before .before .before .before .before .before .before .before .before .before .before .before .before .field-at .ensures) _ (c .before .before .before .before .before .before .before .before .before .before .before .before .before .before .found7 .given .1) refl
+      (c .served-turn2 .ensures .0 _) (c .before .before .before .before .before .before .before .before .serve-root .ensures),
+  c .served-turn2 .ensures .1,
+)
 
 same-length-9 : tie.Need-same-length-9
 same-length-9 c = search needs
@@ -165,9 +168,11 @@ same-length-12 : tie.Need-same-length-12
 same-length-12 c = search needs
 
 returns-9 : tie.Need-returns-9
-returns-9 c = let a = c .before .before .before .before .before .before .before .before .before .before .before .before .before .before .before .before .args in let t = (partsOf (a .fields .now) (a .numbers .now) (a .levels .now) (a .ancestors .now)) in
-    (served-from (a .log .now) (a .scratch .now) (sessionOf t (a .reading)) (c .before .before .before .before .before .before .before .before .before .field-at .result) (c .before .before .before .before .before .before .before .before .before .field-at .ensures) _ (c .before .before .before .before .before .before .before .found8 .given .1) refl
-    (c .served-turn3 .ensures .0 _) (c .before .serve-question .ensures), c .served-turn3 .ensures .1)
+returns-9 c = let a = c .before .before .before .before .before .before .before .before .before .before .before .before .before .before .before .before .args in let t = (partsOf (a .fields .now) (a .numbers .now) (a .levels .now) (a .ancestors .now)) in (
+  served-from (a .log .now) (a .scratch .now) (sessionOf t (a .reading)) (c .before .before .before .before .before .before .before .before .before .field-at .result) (c .before .before .before .before .before .before .before .before .before .field-at .ensures) _ (c .before .before .before .before .before .before .before .found8 .given .1) refl
+      (c .served-turn3 .ensures .0 _) (c .before .serve-question .ensures),
+  c .served-turn3 .ensures .1,
+)
 
 same-length-13 : tie.Need-same-length-13
 same-length-13 c = search needs
@@ -182,9 +187,11 @@ same-length-16 : tie.Need-same-length-16
 same-length-16 c = search needs
 
 returns-10 : tie.Need-returns-10
-returns-10 c = let a = c .before .before .before .before .before .before .before .before .before .before .before .before .before .before .before .before .args in let t = (partsOf (a .fields .now) (a .numbers .now) (a .levels .now) (a .ancestors .now)) in
-    (served-from (a .log .now) (a .scratch .now) (sessionOf t (a .reading)) (c .before .before .before .before .before .before .before .before .before .field-at .result) (c .before .before .before .before .before .before .before .before .before .field-at .ensures) _ (c .before .before .before .before .before .before .before .found9 .given .1) refl
-    (c .served-turn4 .ensures .0 _) (c .before .serve-alike .ensures), c .served-turn4 .ensures .1)
+returns-10 c = let a = c .before .before .before .before .before .before .before .before .before .before .before .before .before .before .before .before .args in let t = (partsOf (a .fields .now) (a .numbers .now) (a .levels .now) (a .ancestors .now)) in (
+  served-from (a .log .now) (a .scratch .now) (sessionOf t (a .reading)) (c .before .before .before .before .before .before .before .before .before .field-at .result) (c .before .before .before .before .before .before .before .before .before .field-at .ensures) _ (c .before .before .before .before .before .before .before .found9 .given .1) refl
+      (c .served-turn4 .ensures .0 _) (c .before .serve-alike .ensures),
+  c .served-turn4 .ensures .1,
+)
 
 pub take-turn-spec : {M : Type 1} → statement M
 take-turn-spec =
