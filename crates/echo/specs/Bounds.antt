@@ -1,5 +1,6 @@
 -- Bounds that keep the program's numbers within 32 bits and its lines within their buffer.
-use Prim.Native.Nat.{_+_, _^_, _≤_, _<_}
+use mathlib.Core.Path.{_≡_}
+use Prim.Native.Nat.{ℕ, _+_, _*_, _^_, _≤_, _<_}
 use lib.ListN.{length}
 use Rattle.lines.specs.declared.Text.{Text}
 use Rattle.echo.specs.declared.turn.Reading.{Reading}
@@ -20,3 +21,16 @@ pub record Grows (r : Reading) (t : Turn) : Type 0 where
   pub text : Holds (t .text)
   pub ordinal : t .reading .ordinal ≤ r .ordinal + 1
   pub total : t .reading .total ≤ r .total + 65535
+
+-- the most bytes of a log that are read
+abbrev pub logLimit : ℕ
+logLimit = 16384
+
+-- before the first field of a log of n bytes, with the header in a buffer of m bytes
+pub record Opens (r : Reading) (header n m : ℕ) : Type 0 where
+  pub place : r .place ≡ 0
+  pub ordinal : r .ordinal ≡ 1
+  pub total : r .total ≡ 0
+  pub line : header ≤ 96
+  pub log : n ≤ logLimit
+  pub buffer : 32 * n + 288 ≤ m

@@ -6,5 +6,6 @@ pub mod Session
 pub mod SessionLaws
 pub mod Bounds
 pub mod Transcript
+pub mod PageLaws
 pub mod PlaceLaws
 pub mod TranscriptLaws

@@ -2,6 +2,7 @@
 mod page;
 mod reply;
 mod serve;
+mod transcript;
 mod turn;
 
 fn main() {}

@@ -1,53 +1,48 @@
+-- `put_text` copies the bytes of the text one after another.
+use mathlib.Core.Path.{_≡_, refl}
+use Prim.Native.Nat.{_-_, _≤_}
+use native.Mathlib.Omega.{arith}
+use Rattle.echo.specs.PageLaws.{Copied, copied-none, copied-more}
 use Rattle.echo.proofs.page.put_text.Statement.{statement}
 use Rattle.echo.proofs.page.put_text.Tie as tie
 use Rattle.echo.proofs.page.put_text.Reads as reads
 use Rattle.echo.proofs.page.put_text.Lts as lts
 
 abbrev Inv-loop : tie.InvT-loop
-Inv-loop out₀ filled bytes len i₀ out i = ?
+Inv-loop out₀ filled bytes len i₀ out i = (i ≤ len) × Copied out₀ filled bytes out i
 
 abbrev μ-loop : tie.MeasureT-loop
-μ-loop out₀ filled bytes len i₀ out i = ?
+μ-loop out₀ filled bytes len i₀ out i = len - i
 
--- src/page.rt:20:5
 loop-holds : tie.Need-loop-holds Inv-loop μ-loop
-loop-holds c = ?
+loop-holds c = (omega arith, copied-none (c .before .args .out .now) (c .before .args .filled) (c .before .args .text .bytes))
 
--- src/page.rt:21:27
 array-read-out : tie.Need-array-read-out Inv-loop μ-loop
-array-read-out c = ?
+array-read-out c = omega (arith, c .before .before .before .pre .0 .most)
 
--- src/page.rt:21:13
 add-out : tie.Need-add-out Inv-loop μ-loop
-add-out c = ?
+add-out c = omega (arith, c .before .before .before .pre .0 .most, c .before .before .before .pre .1)
 
--- src/page.rt:21:9
 slice-write-out : tie.Need-slice-write-out Inv-loop μ-loop
-slice-write-out c = ?
+slice-write-out c = omega (arith, c .before .before .before .pre .0 .most, c .before .before .before .pre .1, c .before .loop .inv .1 .same)
 
--- src/page.rt:22:9
 add-i : tie.Need-add-i Inv-loop μ-loop
-add-i c = ?
+add-i c = omega arith
 
--- src/page.rt:20:5
 loop-less : tie.Need-loop-less Inv-loop μ-loop
-loop-less c = ?
+loop-less c = omega arith
 
--- src/page.rt:20:5
 loop-again : tie.Need-loop-again Inv-loop μ-loop
-loop-again c = ?
+loop-again c = (omega arith, copied-more (c .before .before .before .args .out .now) (c .before .before .before .args .filled) (c .before .before .before .args .text .bytes) (c .before .loop .out) (c .before .loop .i) (omega (arith, c .before .before .before .pre .0 .most, c .before .before .before .pre .1, c .before .loop .inv .1 .same)) (omega (arith, c .before .before .before .pre .0 .bytes)) (c .before .loop .inv .1))
 
--- src/page.rt:24:5
 add-result : tie.Need-add-result Inv-loop μ-loop
-add-result c = ?
+add-result c = omega (arith, c .before .before .before .pre .0 .most, c .before .before .before .pre .1)
 
--- src/page.rt:11:1
 same-length : tie.Need-same-length Inv-loop μ-loop
-same-length c = ?
+same-length c = c .before .loop .inv .1 .same
 
--- src/page.rt:11:1
 returns : tie.Need-returns Inv-loop μ-loop
-returns c = ?
+returns c = let e : c .before .loop .i ≡ c .before .before .before .args .text .len = omega arith in (rw e at (c .before .loop .inv .1 .text), refl)
 
 pub put-text-spec : {M : Type 1} → statement M
 put-text-spec =
