@@ -2,12 +2,12 @@
 use mathlib.Core.Path.{_≡_, refl, sym, ap, _∙_}
 use mathlib.Core.Bool.{Bool, true, false, not, _&&_, true≢false}
 use mathlib.Core.List.{List}
-use Prim.Native.Nat.{ℕ, _+_, _≤_, _<_}
+use Prim.Native.Nat.{ℕ, _+_, _-_, _≤_, _<_}
 use native.Mathlib.Decide.{decLt, ℕ-discrete}
 use native.Mathlib.Omega.{arith}
 use lib.Dec.{eqb}
 use lib.ListN.{length, getD}
-use Rattle.laws.specs.Test.{pick}
+use Rattle.laws.specs.Test.{pick, bit}
 use Rattle.log.specs.Outcome.{Outcome, end, refusal, field}
 use Rattle.log.specs.Bytes.{allZero}
 use Rattle.log.specs.Field.{listed, fits, values, wholeField as readWhole, bodyAt, nextAt, fieldAt}
@@ -66,3 +66,15 @@ module _ (log scratch : List ℕ) (s : Session) (within : s .place ≤ length lo
 
       stays : {after : Session} → after .place ≡ s .place → after .on ≡ false → Moves log s after
       stays e o = record { least = omega arith; most = omega arith; on = λ t. absurd (true≢false (sym t ∙ o)) }
+
+-- what is left of the log, and whether the reading goes on
+abbrev pub left : List ℕ → Session → ℕ
+left log s = (length log - s .place) + bit (s .on)
+
+-- it falls with each step
+pub left-falls : (log : List ℕ) (s after : Session) → s .on ≡ true → Moves log s after → left log after < left log s
+left-falls log s after on m = rw on (go (after .on) refl)
+  where
+    go : (b : Bool) → after .on ≡ b → (length log - after .place) + bit (after .on) < (length log - s .place) + 1
+    go true e = rw e (omega (arith, m .on e, m .most))
+    go false e = rw e (omega (arith, m .least, m .most))
