@@ -34,3 +34,8 @@ pub record Opens (r : Reading) (header n m : ℕ) : Type 0 where
   pub line : header ≤ 96
   pub log : n ≤ logLimit
   pub buffer : 32 * n + 288 ≤ m
+
+-- a log of n bytes, and a buffer of m bytes that holds all that it prints: a line of 96 bytes for each field of three, and three lines more
+pub record Sized (n m : ℕ) : Type 0 where
+  pub log : n ≤ logLimit
+  pub buffer : 32 * logLimit + 288 ≤ m

@@ -9,3 +9,4 @@ pub mod Transcript
 pub mod PageLaws
 pub mod PlaceLaws
 pub mod TranscriptLaws
+pub mod WholeLaws

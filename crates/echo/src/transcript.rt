@@ -2,14 +2,19 @@
 use crate::page::put_text;
 use crate::turn::Reading;
 use crate::turn::take_turn;
+use lines::end_line;
+use lines::header;
+use set_up::Made;
+use set_up::set_up;
 ghost use mathlib.Core.Path.{_≡_};
 ghost use mathlib.Core.List.{_++_};
 ghost use Prim.Native.Nat.{_+_, _*_, _≤_};
 ghost use lib.ListN.{length, take};
+ghost use Rattle.io.specs.Counts.{Counts};
 ghost use Rattle.rows.specs.Row.{partsOf};
-ghost use Rattle.echo.specs.Bounds.{Opens};
+ghost use Rattle.echo.specs.Bounds.{Opens, Sized};
 ghost use Rattle.echo.specs.Session.{sessionOf};
-ghost use Rattle.echo.specs.Transcript.{readLog};
+ghost use Rattle.echo.specs.Transcript.{readLog, transcript};
 
 // Where the reading ended, and how many bytes of the buffer are filled.
 pub struct Page {
@@ -46,4 +51,42 @@ fn read_fields(
         reading: reading,
         filled: filled,
     }
+}
+
+// Header, the lines of the fields and the last line, and how many bytes they are.
+pub fn transcribe(log: &[u8], out: &mut [u8]) -> usize
+    requires { ⌜ Sized (length (now log)) (length (now out)) ⌝ }
+    ensures text { λ r. ⌜ take r (now (out .exit)) ≡ transcript (now (log .entry)) ⌝ }
+    ensures counts { λ r. ⌜ Counts r (now (out .exit)) ⌝ }
+{
+    let mut fields = [0u16; 1280];
+    let mut numbers = [0u64; 256];
+    let mut levels = [0i32; 128];
+    let mut ancestors = [0u16; 15616];
+    let scratch = [0u16; 128];
+    let Made::Empty(state) = set_up(&mut fields, &mut numbers, &mut levels, &mut ancestors) else {
+        return 0;
+    };
+    let first = Reading {
+        place: 0,
+        ordinal: 1,
+        total: 0,
+        state: state,
+        on: true,
+    };
+    let filled = put_text(out, 0, header(128));
+    let page = read_fields(
+        log,
+        out,
+        &mut fields,
+        &mut numbers,
+        &mut levels,
+        &mut ancestors,
+        &scratch,
+        first,
+        filled,
+    );
+    let last = page.reading;
+    let end = last.state;
+    put_text(out, page.filled, end_line(end.count as u32, last.total))
 }

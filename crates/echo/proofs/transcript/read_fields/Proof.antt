@@ -22,9 +22,19 @@ abbrev μ-loop : tie.MeasureT-loop
 μ-loop log out₀ fields₀ numbers₀ levels₀ ancestors₀ scratch header reading₀ filled₀ out fields numbers levels ancestors reading filled = left log (sessionOf (partsOf fields numbers levels ancestors) reading)
 
 loop-holds : tie.Need-loop-holds Inv-loop μ-loop
-loop-holds c = let a = c .before .before .before .before .before .before .args in let o = c .before .before .before .before .before .before .pre in
-    (refl, (refl, (refl, (refl,
-    come-first (a .log .now) (a .scratch .now) (sessionOf (partsOf (a .fields .now) (a .numbers .now) (a .levels .now) (a .ancestors .now)) (a .first)) (a .out .now) (a .header) (o .place) (o .ordinal) (o .total) (o .line)))))
+loop-holds c = let a = c .before .before .before .before .before .before .args in let o = c .before .before .before .before .before .before .pre in (
+  refl,
+  (
+    refl,
+    (
+      refl,
+      (
+        refl,
+        come-first (a .log .now) (a .scratch .now) (sessionOf (partsOf (a .fields .now) (a .numbers .now) (a .levels .now) (a .ancestors .now)) (a .first)) (a .out .now) (a .header) (o .place) (o .ordinal) (o .total) (o .line),
+      ),
+    ),
+  ),
+)
 
 take-turn-requires : tie.Need-take-turn-requires Inv-loop μ-loop
 take-turn-requires c κs = let a = c .before .before .before .before .before .before .before .before .before .before .before .before .args in let l = c .before .before .before .before .before .loop in
@@ -39,10 +49,20 @@ loop-less c = let a = c .before .before .before .before .before .before .before 
     turn-falls (a .log .now) (a .scratch .now) (partsOf (l .fields) (l .numbers) (l .levels) (l .ancestors)) _ (l .reading) (c .before .before .before .before .before .before .before .before .before .before .before .before .before .take-turn .result) (c .before .before .before .before .before .before .before .before .before .before .before .before .before .before .before .before .before .before .loop-test .taken) (c .before .before .before .before .before .before .before .before .before .before .before .before .before .take-turn .ensures .0) (l .inv .1 .1 .1 .1 .place)
 
 loop-again : tie.Need-loop-again Inv-loop μ-loop
-loop-again c = let a = c .before .before .before .before .before .before .before .before .before .before .before .before .before .before .before .before .before .before .before .before .before .before .before .before .before .before .args in let l = c .before .before .before .before .before .before .before .before .before .before .before .before .before .before .before .before .before .before .before .loop in
-    (omega arith, (omega arith, (omega arith, (omega arith,
-    come-turn (a .log .now) (a .scratch .now) (partsOf (l .fields) (l .numbers) (l .levels) (l .ancestors)) _ (l .reading) (c .before .before .before .before .before .before .before .before .before .before .before .before .before .take-turn .result) (c .before .before .before .before .before .before .before .before .before .before .before .before .before .before .before .before .before .before .loop-test .taken) (c .before .before .before .before .before .before .before .before .before .before .before .before .before .take-turn .ensures .0)
-    (l .out) (l .filled) _ _ (l .inv .1 .1 .1 .1) (c .before .before .before .before .before .before .before .before .before .before .before .before .before .take-turn .ensures .1) (c .before .before .before .put-text .ensures) (omega arith)))))
+loop-again c = let a = c .before .before .before .before .before .before .before .before .before .before .before .before .before .before .before .before .before .before .before .before .before .before .before .before .before .before .args in let l = c .before .before .before .before .before .before .before .before .before .before .before .before .before .before .before .before .before .before .before .loop in (
+  omega arith,
+  (
+    omega arith,
+    (
+      omega arith,
+      (
+        omega arith,
+        come-turn (a .log .now) (a .scratch .now) (partsOf (l .fields) (l .numbers) (l .levels) (l .ancestors)) _ (l .reading) (c .before .before .before .before .before .before .before .before .before .before .before .before .before .take-turn .result) (c .before .before .before .before .before .before .before .before .before .before .before .before .before .before .before .before .before .before .loop-test .taken) (c .before .before .before .before .before .before .before .before .before .before .before .before .before .take-turn .ensures .0)
+            (l .out) (l .filled) _ _ (l .inv .1 .1 .1 .1) (c .before .before .before .before .before .before .before .before .before .before .before .before .before .take-turn .ensures .1) (c .before .before .before .put-text .ensures) (omega arith),
+      ),
+    ),
+  ),
+)
 
 same-length : tie.Need-same-length Inv-loop μ-loop
 same-length c = c .before .loop .inv .1 .1 .1 .1 .same
