@@ -1,0 +1,4 @@
+pub mod Reply
+pub mod ReplyLaws
+pub mod TableCalls
+pub mod TableCallsLaws
