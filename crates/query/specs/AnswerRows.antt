@@ -1,5 +1,5 @@
 -- On every table the row that a sound answer names was read: it is in use and sound.
-use mathlib.Core.Path.{_≡_, refl}
+use mathlib.Core.Path.{_≡_, refl, sym, _∙_}
 use mathlib.Core.Bool.{Bool, true, false, _||_, _&&_, not}
 use Prim.Native.Nat.{ℕ}
 use native.Mathlib.Omega.{arith}
@@ -8,7 +8,6 @@ use Rattle.laws.specs.Test.{pick, says-get}
 use Rattle.tree_laws.specs.Ancestor.{none}
 use Rattle.tree_laws.specs.Compressed.{isApex}
 use Rattle.tree_laws.specs.StoredFromCompressed.{pathRow, higher}
-use Rattle.tree_laws.specs.PlainFromStored.{plainNca}
 use Rattle.rows.specs.Table.{Table, parent, path, depth, upper}
 use Rattle.rows.specs.Spans.{p}
 use Rattle.query.specs.declared.compressed.Side.{Side}
@@ -16,8 +15,8 @@ use Rattle.query.specs.declared.stored.Fork.{Fork}
 use Rattle.query.specs.Reading.{IsRow, isRow}
 use Rattle.query.specs.ReadingLaws.{says-row}
 use Rattle.query.specs.CompressedStep.{climb, atEntry, pastEntry, pastReach, pastSpan, sideFrom}
-use Rattle.query.specs.StoredAnswer.{pathRowOf, isOnRow, forked, meeting, join, lost, alone, storedFrom, storedAnswer}
-use Rattle.query.specs.PlainAnswer.{Asked, plainFrom, plainAnswer}
+use Rattle.query.specs.StoredAnswer.{Asked, pathRowOf, isOnRow, forked, meeting, join, lost, alone, storedFrom, storedAnswer}
+use Rattle.query.specs.PlainAnswer.{isAbove, leadsOn, lowerX, lowerY, lowered, plainFrom, plainAnswer}
 
 -- two tests that both hold
 both : (a b : Bool) → a && b ≡ true → (a ≡ true) × (b ≡ true)
@@ -100,12 +99,47 @@ module _ (t : Table) where
       go false true f j e = let z : _≡_ {A = ℕ} 0 1 = cc in absurd (omega arith)
       go false false f j e = j e
 
+  pub answer-row : (x y : ℕ) → Asked t x y → storedAnswer t x y .sound ≡ true → IsRow t (storedAnswer t x y .nca)
+  answer-row x y h = stored-row (p t x) (p t y) x y (h .left) (h .right)
+
+  -- the tests of a plain answer lead to a stored one
+  lowered-row : (x y : ℕ) (f : Fork) → Asked t x y → IsRow t (f .nca) → lowered t x y f .sound ≡ true → IsRow t (lowered t x y f .nca)
+  unfolding lowered lowerX lowerY forked
+  lowered-row x y f h i = go (leadsOn t (f .nca) (f .«to_x»)) (leadsOn t (f .nca) (f .«to_y»))
+    where
+      xr : Asked t x (t .root)
+      xr = record { left = h .left; right = h .root; root = h .root }
+
+      yr : Asked t y (t .root)
+      yr = record { left = h .right; right = h .root; root = h .root }
+
+      result : Bool → Bool → Fork
+      result a b = pick a (lowerX t (storedAnswer t x (t .root))) (pick b (lowerY t (storedAnswer t y (t .root))) f)
+
+      go : (a b : Bool) → result a b .sound ≡ true → IsRow t (result a b .nca)
+      go true b e = answer-row x (t .root) xr (both _ _ (both _ _ e .0) .0)
+      go false true e = answer-row y (t .root) yr (both _ _ (both _ _ e .0) .0)
+      go false false e = i
+
   pub plain-row : (x y : ℕ) → Asked t x y → plainAnswer t x y .sound ≡ true → IsRow t (plainAnswer t x y .nca)
-  unfolding plainAnswer plainFrom forked plainNca
-  plain-row x y h e =
-      let sounds = both _ _ (both _ _ (both _ _ e .0) .0) in
-      let first = both _ _ (sounds .0) in
-      let xr = storedAnswer t x (t .root) in
-      pick-row (eqb (xr .nca) (storedAnswer t y (t .root) .nca)) (stored-row _ _ x y (h .left) (h .right) (first .0))
-      (pick-row (eqb (storedAnswer t x y .nca) (xr .nca)) (stored-row _ _ y (t .root) (h .right) (h .root) (sounds .1))
-      (stored-row _ _ x (t .root) (h .left) (h .root) (first .1)))
+  unfolding plainAnswer plainFrom
+  plain-row x y h = go (storedAnswer t x y) (answer-row x y h)
+    where
+      result : Bool → Bool → Fork → Fork
+      result a b f = pick a (pick b (lowered t x y f) lost) f
+
+      pass : (a b : Bool) (f : Fork) → IsRow t (f .nca) → result a b f .sound ≡ true → IsRow t (result a b f .nca)
+      pass true true f i e = lowered-row x y f h i e
+      pass true false f i e = let z : _≡_ {A = ℕ} 0 1 = cc in absurd (omega arith)
+      pass false b f i e = i
+
+      sound-first : (s a b : Bool) (f : Fork) → f .sound ≡ s → result (s && a) b f .sound ≡ true → s ≡ true
+      sound-first true a b f i e = refl
+      sound-first false a b f i e = sym i ∙ e
+
+      go : (f : Fork) → (f .sound ≡ true → IsRow t (f .nca))
+          → result (f .sound && isAbove t (f .nca)) (isRow t (f .«to_x») && isRow t (f .«to_y»)) f .sound ≡ true
+          → IsRow t (result (f .sound && isAbove t (f .nca)) (isRow t (f .«to_x») && isRow t (f .«to_y»)) f .nca)
+      go f i e =
+          pass (f .sound && isAbove t (f .nca)) (isRow t (f .«to_x») && isRow t (f .«to_y»)) f
+          (i (sound-first (f .sound) (isAbove t (f .nca)) (isRow t (f .«to_x») && isRow t (f .«to_y»)) f refl e)) e

@@ -4,6 +4,7 @@ use mathlib.Core.Path.{_≡_}
 use mathlib.Core.List.{List, [], _∷_, _++_}
 use Prim.Native.Nat.{ℕ, _≤_, _<_}
 use lib.ListN.{length, getD}
+use Rattle.laws.specs.Test.{pick}
 use Rattle.rows.specs.declared.state.State.{State}
 use Rattle.rows.specs.Layout.{entryStride}
 use Rattle.rows.specs.Row.{Parts, rowAt, entryAt}
@@ -11,8 +12,10 @@ use Rattle.rows.specs.Capacity.{Fits}
 use Rattle.rows.specs.Table.{Table, parent}
 use Rattle.rows.specs.Spans.{p}
 use Rattle.span.specs.Rank.{rankOf}
+use Rattle.query.specs.declared.stored.Fork.{Fork}
 use Rattle.query.specs.CompressedStep.{atEntry, pastEntry, pastReach, sideFrom}
-use Rattle.query.specs.StoredAnswer.{between}
+use Rattle.query.specs.StoredAnswer.{between, storedAnswer}
+use Rattle.query.specs.PlainAnswer.{leadsOn}
 use Rattle.query.specs.Question.{question}
 
 -- the parts agree in row v
@@ -39,10 +42,18 @@ sidesRows t d x y = sideRows t (t .entry x (rankOf d)) d (p t y) x ++ sideRows t
 abbrev pub storedRows : Table → ℕ → ℕ → List ℕ
 storedRows t x y = sidesRows t (between (p t x) (p t y)) x y
 
--- the rows of a question: those of x, y and the root, and of three stored answers
+-- the node whose stored answer with the root is sought, where the line goes on below the stored answer f for x and y
+abbrev pub onward : Table → ℕ → ℕ → Fork → ℕ
+onward t x y f = pick (leadsOn t (f .nca) (f .«to_x»)) x y
+
+-- the rows of a plain answer from the stored answer f: its branches, and those of one more stored answer
+abbrev pub lowerRows : Table → ℕ → ℕ → Fork → List ℕ
+lowerRows t x y f = f .«to_x» ∷ f .«to_y» ∷ storedRows t (onward t x y f) (t .root)
+
+-- the rows of a question: those of x, y and the root, and of two stored answers
 abbrev pub rowsRead : Table → ℕ → ℕ → List ℕ
-rowsRead t x y = x ∷ y ∷ t .root ∷ (storedRows t x y ++ (storedRows t x (t .root) ++ storedRows t y (t .root)))
+rowsRead t x y = x ∷ y ∷ t .root ∷ (storedRows t x y ++ lowerRows t x y (storedAnswer t x y))
 
 -- so many
 abbrev pub most : ℕ
-most = 33
+most = 25

@@ -14,7 +14,8 @@ use Rattle.rows.specs.State.{Standing, isStanding}
 use Rattle.rows.specs.Table.{Table, tableOf}
 use Rattle.query.specs.Reading.{Holds, isRow}
 use Rattle.query.specs.ReadingLaws.{says-row}
-use Rattle.query.specs.PlainAnswer.{Asked, plainAnswer}
+use Rattle.query.specs.StoredAnswer.{Asked}
+use Rattle.query.specs.PlainAnswer.{plainAnswer}
 use Rattle.query.specs.AnswerRows.{plain-row}
 use Rattle.query.specs.Outcome.{refused}
 use Rattle.query.specs.Question.{InRange, served, asked, question}

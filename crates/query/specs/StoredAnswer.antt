@@ -1,4 +1,5 @@
--- The stored answer for two rows (01, "So a question takes three stored answers"), from the compressed step on both sides, on any table.
+-- The stored answer for two rows (01, "So a question takes three stored answers": how many are asked for stands in PlainAnswer), from the compressed step
+-- on both sides, on any table.
 use mathlib.Core.Bool.{Bool, true, false, _||_, _&&_, not}
 use Prim.Native.Nat.{ℕ, _-_}
 use lib.Dec.{eqb, leb}
@@ -9,7 +10,7 @@ use Rattle.rows.specs.Table.{Table, parent, path, depth}
 use Rattle.rows.specs.Spans.{p}
 use Rattle.query.specs.declared.compressed.Side.{Side}
 use Rattle.query.specs.declared.stored.Fork.{Fork}
-use Rattle.query.specs.Reading.{isRow}
+use Rattle.query.specs.Reading.{IsRow, isRow}
 use Rattle.query.specs.CompressedStep.{compressedSide}
 
 -- the lowest row of the side's path at or above its branch
@@ -55,3 +56,9 @@ storedFrom t m n x y =
 
 abbrev pub storedAnswer : Table → ℕ → ℕ → Fork
 storedAnswer t x y = storedFrom t (p t x) (p t y) x y
+
+-- x, y and the root are rows in use and sound
+pub record Asked (t : Table) (x y : ℕ) : Type 0 where
+  pub left : IsRow t x
+  pub right : IsRow t y
+  pub root : IsRow t (t .root)

@@ -1,6 +1,7 @@
-// Characteristic ancestors of two nodes of a table: the compressed step, the stored answer from it, and the plain answer from three stored ones.
+// Characteristic ancestors of two nodes of a table: the compressed step, the stored answer from it, and the plain answer from one stored one or two.
 // All of it only reads, and takes the same few steps on every table.
 mod compressed;
+pub mod line;
 mod plain;
 pub mod row;
 pub mod stored;

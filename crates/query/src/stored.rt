@@ -3,6 +3,7 @@ use crate::compressed::Side;
 use crate::compressed::choose;
 use crate::compressed::side_from;
 use crate::row::is_row;
+use crate::row::p_at;
 use rows::layout::DEPTH;
 use rows::layout::NONE;
 use rows::layout::PARENT;
@@ -15,8 +16,7 @@ ghost use mathlib.Core.Path.{_≡_};
 ghost use Rattle.tree_laws.specs.StoredFromCompressed.{higher, branchAt};
 ghost use Rattle.rows.specs.Table.{depth, path};
 ghost use Rattle.query.specs.Reading.{Holds, IsRow, asTable};
-ghost use Rattle.query.specs.PlainAnswer.{Asked};
-ghost use Rattle.query.specs.StoredAnswer.{pathRowOf, isOnRow, forked, between, join, storedFrom};
+ghost use Rattle.query.specs.StoredAnswer.{Asked, pathRowOf, isOnRow, forked, between, join, lost, storedFrom, storedAnswer};
 
 // A nearest common ancestor and the branches towards both nodes; sound where every row met is, and no row sought is missing.
 pub struct Fork {
@@ -125,6 +125,18 @@ pub fn forked(nca: u16, to_x: u16, to_y: u16, sound: bool) -> Fork
     }
 }
 
+// No answer.
+pub fn lost() -> Fork
+    ensures { λ r. ⌜ r ≡ lost ⌝ }
+{
+    Fork {
+        nca: NONE,
+        to_x: NONE,
+        to_y: NONE,
+        sound: false,
+    }
+}
+
 // The stored answer from the compressed one, c on the side of x and k on that of y; known is a sound row.
 fn join(
     fields: &[u16],
@@ -161,7 +173,7 @@ fn between(a: u64, b: u64) -> u64
 }
 
 // The stored answer for x and y, whose numbers are px and py.
-pub fn stored_from(
+fn stored_from(
     fields: &[u16],
     numbers: &[u64],
     levels: &[i32],
@@ -185,12 +197,7 @@ pub fn stored_from(
         };
     }
     if px == py {
-        return Fork {
-            nca: NONE,
-            to_x: NONE,
-            to_y: NONE,
-            sound: false,
-        };
+        return lost();
     }
     let d = between(px, py);
     let i = rank(d) as u16;
@@ -221,4 +228,23 @@ pub fn stored_from(
         y,
     );
     join(fields, numbers, levels, ancestors, state, known, c, k)
+}
+
+// The stored answer for x and y.
+pub fn stored_answer(
+    fields: &[u16],
+    numbers: &[u64],
+    levels: &[i32],
+    ancestors: &[u16],
+    state: State,
+    x: u16,
+    y: u16,
+) -> Fork
+    requires { ⌜ Holds (state .count) (now fields) (now numbers) (now levels) ⌝ }
+    requires { ⌜ Asked (asTable (now fields) (now numbers) (now levels) (now ancestors) state) x y ⌝ }
+    ensures { λ r. ⌜ r ≡ storedAnswer (asTable (now (fields .entry)) (now (numbers .entry)) (now (levels .entry)) (now (ancestors .entry)) state) x y ⌝ }
+{
+    let px = p_at(fields, numbers, levels, ancestors, state, x);
+    let py = p_at(fields, numbers, levels, ancestors, state, y);
+    stored_from(fields, numbers, levels, ancestors, state, px, py, x, y)
 }

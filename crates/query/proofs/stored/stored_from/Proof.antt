@@ -12,11 +12,14 @@ returns : tie.Need-returns
 unfolding storedFrom
 returns c = let a = c .before .before .before .before .args in rw (eq-eqb (a .x) (a .y) (c .if1 .taken))
 
+lost-requires : tie.Need-lost-requires
+lost-requires c κs = search needs
+
 returns-2 : tie.Need-returns-2
 unfolding storedFrom
 returns-2 c =
-    let a = c .before .before .before .before .before .args in
-    rw (ne-eqb (a .x) (a .y) (c .before .if1 .left), eq-eqb (a .px) (a .py) (c .if2 .taken))
+    let a = c .before .before .before .before .before .before .args in
+    rw (c .lost .ensures, ne-eqb (a .x) (a .y) (c .before .before .if1 .left), eq-eqb (a .px) (a .py) (c .before .if2 .taken))
 
 between-requires : tie.Need-between-requires
 between-requires c κs = search needs
@@ -70,6 +73,7 @@ stored-from-spec =
     tie.close
     (tie.spec
     returns
+    lost-requires
     returns-2
     between-requires
     rank-requires
