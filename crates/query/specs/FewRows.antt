@@ -9,7 +9,7 @@ use Rattle.rows.specs.declared.state.State.{State}
 use Rattle.rows.specs.Layout.{entryStride}
 use Rattle.rows.specs.Row.{Parts, rowAt, entryAt}
 use Rattle.rows.specs.Capacity.{Fits}
-use Rattle.rows.specs.Table.{Table, parent}
+use Rattle.rows.specs.Table.{Table, parent, upper}
 use Rattle.rows.specs.Spans.{p}
 use Rattle.span.specs.Rank.{rankOf}
 use Rattle.query.specs.declared.stored.Fork.{Fork}
@@ -30,10 +30,11 @@ pub record DrawsOn (k c : ℕ) (a : Parts) (s : State) (x y : ℕ) : Type 0 wher
   pub decide : (b : Parts) → Fits c b → ((i : ℕ) → i < length rows → getD rows i 0 < c → SameRow a b (getD rows i 0))
       → question b s x y ≡ question a s x y
 
--- the rows of one side: the entry's, those of the three steps up, and the parent of the branch
+-- the rows that one side may meet: the entry's, one above each row that it comes to, and the parent of the branch
 abbrev pub sideRows : Table → ℕ → ℕ → ℕ → ℕ → List ℕ
 sideRows t e d o z =
-    atEntry t e z .row ∷ pastEntry t e z .row ∷ pastReach t d (pastEntry t e z) .row ∷ sideFrom t e d o z .row ∷ parent t (sideFrom t e d o z .below) ∷ []
+    e ∷ upper t (atEntry t e z .row) ∷ upper t (pastEntry t e z .row) ∷ upper t (pastReach t d (pastEntry t e z) .row)
+    ∷ parent t (sideFrom t e d o z .below) ∷ []
 
 -- the rows of one stored answer, whose numbers are d apart
 abbrev pub sidesRows : Table → ℕ → ℕ → ℕ → List ℕ

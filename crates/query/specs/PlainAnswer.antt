@@ -34,10 +34,13 @@ lowered t x y f =
     pick (leadsOn t (f .nca) (f .«to_x»)) (lowerX t (storedAnswer t x (t .root)))
     (pick (leadsOn t (f .nca) (f .«to_y»)) (lowerY t (storedAnswer t y (t .root))) f)
 
--- the plain answer from the stored answer f; where the line goes on below it both branches are read
+-- the rows that are read where the line goes on below the stored answer f: the root and both branches
+unfoldable pub areRows : Table → Fork → Bool
+areRows t f = isRow t (t .root) && isRow t (f .«to_x») && isRow t (f .«to_y»)
+
+-- the plain answer from the stored answer f
 unfoldable pub plainFrom : Table → ℕ → ℕ → Fork → Fork
-plainFrom t x y f =
-    pick (f .sound && isAbove t (f .nca)) (pick (isRow t (f .«to_x») && isRow t (f .«to_y»)) (lowered t x y f) lost) f
+plainFrom t x y f = pick (f .sound && isAbove t (f .nca)) (pick (areRows t f) (lowered t x y f) lost) f
 
 -- the plain answer for x and y
 unfoldable pub plainAnswer : Table → ℕ → ℕ → Fork

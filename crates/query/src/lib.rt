@@ -95,9 +95,6 @@ fn served(
     if !is_row(fields, numbers, levels, ancestors, state, y) {
         return Answered::Refused(Refusal::Corrupt);
     }
-    if !is_row(fields, numbers, levels, ancestors, state, state.root) {
-        return Answered::Refused(Refusal::Corrupt);
-    }
     let f = plain_answer(fields, numbers, levels, ancestors, state, x, y);
     if !f.sound {
         return Answered::Refused(Refusal::Corrupt);

@@ -12,7 +12,8 @@ ghost use mathlib.Core.Path.{_≡_};
 ghost use mathlib.Core.Bool.{true};
 ghost use Rattle.query.specs.Reading.{Holds, IsRow, asTable};
 ghost use Rattle.query.specs.StoredAnswer.{Asked};
-ghost use Rattle.query.specs.PlainAnswer.{isAbove, leadsOn, lowerX, lowerY, lowered, plainFrom, plainAnswer};
+ghost use Rattle.query.specs.PlainAnswer.{isAbove, leadsOn, lowerX, lowerY, lowered, areRows, plainFrom, plainAnswer};
+ghost use Rattle.query.specs.AnswerRows.{Rows};
 
 // The line goes on below a.
 fn is_above(
@@ -81,7 +82,7 @@ fn lower_y(
     forked(c, field(fields, c, PARENT), f.to_x, f.sound)
 }
 
-// The plain answer, where the line goes on below the stored answer f, whose branches are rows.
+// The plain answer, where the line goes on below the stored answer f, whose branches are rows, as the root is.
 fn lowered(
     fields: &[u16],
     numbers: &[u64],
@@ -94,8 +95,7 @@ fn lowered(
 ) -> Fork
     requires { ⌜ Holds (state .count) (now fields) (now numbers) (now levels) ⌝ }
     requires { ⌜ Asked (asTable (now fields) (now numbers) (now levels) (now ancestors) state) x y ⌝ }
-    requires { ⌜ IsRow (asTable (now fields) (now numbers) (now levels) (now ancestors) state) (f .«to_x») ⌝ }
-    requires { ⌜ IsRow (asTable (now fields) (now numbers) (now levels) (now ancestors) state) (f .«to_y») ⌝ }
+    requires { ⌜ Rows (asTable (now fields) (now numbers) (now levels) (now ancestors) state) f ⌝ }
     ensures { λ r. ⌜ r ≡ lowered (asTable (now (fields .entry)) (now (numbers .entry)) (now (levels .entry)) (now (ancestors .entry)) state) x y f ⌝ }
 {
     let r = state.root;
@@ -108,6 +108,27 @@ fn lowered(
         return lower_y(fields, numbers, levels, ancestors, state, yr);
     }
     f
+}
+
+// The root and both branches of f are sound rows.
+fn are_rows(
+    fields: &[u16],
+    numbers: &[u64],
+    levels: &[i32],
+    ancestors: &[u16],
+    state: State,
+    f: Fork,
+) -> bool
+    requires { ⌜ Holds (state .count) (now fields) (now numbers) (now levels) ⌝ }
+    ensures { λ r. ⌜ r ≡ areRows (asTable (now (fields .entry)) (now (numbers .entry)) (now (levels .entry)) (now (ancestors .entry)) state) f ⌝ }
+{
+    if !is_row(fields, numbers, levels, ancestors, state, state.root) {
+        return false;
+    }
+    if !is_row(fields, numbers, levels, ancestors, state, f.to_x) {
+        return false;
+    }
+    is_row(fields, numbers, levels, ancestors, state, f.to_y)
 }
 
 // The plain answer from the stored answer f.
@@ -132,10 +153,7 @@ fn plain_from(
     if !is_above(fields, numbers, levels, ancestors, state, f.nca) {
         return f;
     }
-    if !is_row(fields, numbers, levels, ancestors, state, f.to_x) {
-        return lost();
-    }
-    if !is_row(fields, numbers, levels, ancestors, state, f.to_y) {
+    if !are_rows(fields, numbers, levels, ancestors, state, f) {
         return lost();
     }
     lowered(fields, numbers, levels, ancestors, state, x, y, f)

@@ -10,7 +10,6 @@ use Rattle.tree_laws.specs.Ancestor.{Anc, Forest}
 use Rattle.tree_laws.specs.AncestorLaws.{anc-in}
 use Rattle.tree_laws.specs.Depth.{Depth, Steps}
 use Rattle.tree_laws.specs.DepthLaws.{anc-steps, depth-forest}
-use Rattle.tree_laws.specs.Nca.{Branch}
 use Rattle.tree_laws.specs.NcaLaws.{branch-over}
 use Rattle.tree_laws.specs.PlainDepthLaws.{plain-depth}
 use Rattle.tree_laws.specs.LeadsOn.{LeadsOn, Above, leads-above, plain-leads-x, plain-leads-y, plain-leads-off}
@@ -22,11 +21,10 @@ use Rattle.rows.specs.Rules.{Rules}
 use Rattle.numbering.specs.Numbered.{numbered, storedTree}
 use Rattle.numbering.specs.LevelLaws.{plainDepthOf, level-distance, line-level, level-line}
 use Rattle.query.specs.declared.stored.Fork.{Fork}
-use Rattle.query.specs.Reading.{isRow}
 use Rattle.query.specs.Line.{isLineLevel}
 use Rattle.query.specs.LevelLaws.{says-eqZ}
 use Rattle.query.specs.StoredAnswer.{storedAnswer}
-use Rattle.query.specs.PlainAnswer.{isAbove, leadsOn, lowerX, lowerY, lowered, plainFrom, plainAnswer}
+use Rattle.query.specs.PlainAnswer.{isAbove, leadsOn, lowerX, lowerY, lowered, areRows, plainFrom, plainAnswer}
 use Rattle.query.specs.PlainAnswerLaws.{plain-lowered, plain-kept}
 use Rattle.question.specs.CompressedExact.{row-passes}
 use Rattle.question.specs.StoredExact.{ForkExact, forked-exact, stored-exact}
@@ -99,16 +97,20 @@ module _ {capacity : ℕ} {t : Table} (r : Rules capacity t) (fits : capacity �
             (plain-leads-y tree o l m (xy .characteristic) (xr .characteristic) (yr .characteristic) e))
         go (fails d) (fails e) = kept-exact d e
 
+    rows-pass : areRows t f ≡ true
+    unfolding areRows
+    rows-pass = rw (
+      row-passes r fits (t .root) o,
+      row-passes r fits (f .«to_x») (anc-in tree l (branch-over (xy .characteristic .towardX))),
+      row-passes r fits (f .«to_y») (anc-in tree m (branch-over (xy .characteristic .towardY))),
+    )
+
     plain-from-exact : ForkExact (plain t) x y (plainFrom t x y f)
     unfolding Leads
     plain-from-exact = go refl (says-above (f .nca) (anc-in tree l (xy .characteristic .nca .left)))
       where
-        passes : (v : ℕ) {z w : ℕ} → z < t .count → Branch (parent t) w z v → isRow t v ≡ true
-        passes v i b = row-passes r fits v (anc-in tree i (branch-over b))
-
         go : {b : Bool} → isAbove t (f .nca) ≡ b → Says (Above (parent t) (t .root) (f .nca)) b → ForkExact (plain t) x y (plainFrom t x y f)
-        go e (holds _) =
-            rw (← plain-lowered t x y f (xy .sound) e (passes (f .«to_x») l (xy .characteristic .towardX)) (passes (f .«to_y») m (xy .characteristic .towardY))) lowered-exact
+        go e (holds _) = rw (← plain-lowered t x y f (xy .sound) e rows-pass) lowered-exact
         go e (fails n) = rw (plain-kept t x y f e)
             (kept-exact (λ d. n (leads-above tree o l (xy .characteristic .towardX) d)) (λ d. n (leads-above tree o m (xy .characteristic .towardY) d)))
 

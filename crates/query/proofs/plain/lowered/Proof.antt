@@ -9,7 +9,7 @@ leads-on-requires : tie.Need-leads-on-requires
 leads-on-requires c κs = search needs
 
 stored-answer-requires : tie.Need-stored-answer-requires
-stored-answer-requires c κs = let h = c .before .before .before .before .before .pre in (h .0, record { left = h .1 .0 .left; right = h .1 .0 .root; root = h .1 .0 .root })
+stored-answer-requires c κs = let h = c .before .before .before .before .before .pre in (h .0, record { left = h .1 .0 .left; right = h .1 .1 .root })
 
 lower-x-requires : tie.Need-lower-x-requires
 lower-x-requires c κs = search needs
@@ -22,7 +22,7 @@ leads-on-requires-2 : tie.Need-leads-on-requires-2
 leads-on-requires-2 c κs = search needs
 
 stored-answer-requires-2 : tie.Need-stored-answer-requires-2
-stored-answer-requires-2 c κs = let h = c .before .before .before .before .before .before .before .pre in (h .0, record { left = h .1 .0 .right; right = h .1 .0 .root; root = h .1 .0 .root })
+stored-answer-requires-2 c κs = let h = c .before .before .before .before .before .before .before .pre in (h .0, record { left = h .1 .0 .right; right = h .1 .1 .root })
 
 lower-y-requires : tie.Need-lower-y-requires
 lower-y-requires c κs = search needs
