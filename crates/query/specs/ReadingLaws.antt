@@ -1,13 +1,12 @@
--- A row by its tests, and numbers compared with a row's span by parts, where a product may pass 64 bits.
+-- A row by its tests, and numbers compared with a row's span.
 use mathlib.Core.Path.{_≡_, sym}
 use mathlib.Core.Bool.{true, false, _&&_}
 use mathlib.Core.List.{List}
 use Prim.Native.Nat.{ℕ, _+_, _-_, _*_, _/_, _^_, _≤_, _<_}
-use native.Mathlib.Nat.{div-lt-iff-lt-mul}
 use native.Mathlib.Omega.{arith}
 use lib.Dec.{leb, ltb}
 use lib.IntN.{ℤ}
-use borrow.Author.Tests.{lt-leb}
+use borrow.Author.Tests.{le-leb, lt-leb}
 use Rattle.laws.specs.Test.{Says, says-eq, says-true, says-map, says-ltb, says-leb, says-and}
 use Rattle.span.specs.Constants.{width}
 use Rattle.rows.specs.Row.{Within}
@@ -35,20 +34,15 @@ known-row {t} {v} {k} h e = rw e (sym (says-true (says-row t k) h))
 pub p-fits : {t : Table} {v : ℕ} → IsRow t v → p t v < 2 ^ 64
 p-fits h = omega (arith, h .sound .end)
 
--- a quotient is below a number exactly where the dividend is below the product
-says-div : (a k b : ℕ) → 0 < k → Says (a < k * b) (ltb (a / k) b)
-says-div a k b h = says-map (λ l. omega (arith, (div-lt-iff-lt-mul {k = k} {x = a} {y = b} h) .0 l)) (λ l. (div-lt-iff-lt-mul {k = k} {x = a} {y = b} h) .1 (omega arith)) (says-ltb (a / k) b)
+-- three and four parts of a row's span fit 64 bits too
+pub parts-fit : {t : Table} {v : ℕ} → IsRow t v → q t v < 2 ^ 64
+parts-fit h = omega (arith, h .sound .end)
 
-pub reach-parts : (d f : ℕ) → ltb (d / 3) f ≡ ltb d ((width - 2) * f)
-reach-parts d f = says-eq (λ h. h) (λ h. h) (says-div d 3 f (omega arith)) (says-ltb d (3 * f))
-
--- a number against a span that starts at s and has parts f
-pub covers-below : (t : Table) (v n : ℕ) → n < start t v → false ≡ covers t v n
+-- a number against a row's span
+pub covers-below : (t : Table) (v n : ℕ) → n < p t v → false ≡ covers t v n
 unfolding covers
-covers-below t v n h = rw (lt-leb (p t v) n (omega arith))
+covers-below t v n h = rw (lt-leb (p t v) n h)
 
-pub covers-parts : (s f n : ℕ) → s ≤ n → leb f (n - s) && ltb ((n - s) / 4) f ≡ leb (s + f) n && ltb n (s + (width - 1) * f)
-covers-parts s f n h =
-    says-eq (λ z. (omega (arith, z .0), omega (arith, z .1))) (λ z. (omega (arith, z .0), omega (arith, z .1)))
-    (says-and (says-leb f (n - s)) (λ _. says-div (n - s) 4 f (omega arith)))
-    (says-and (says-leb (s + f) n) (λ _. says-ltb n (s + 4 * f)))
+pub covers-from : (t : Table) (v n : ℕ) → p t v ≤ n → ltb n (q t v) ≡ covers t v n
+unfolding covers
+covers-from t v n h = rw (le-leb (p t v) n h)

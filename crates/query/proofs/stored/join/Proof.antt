@@ -1,57 +1,45 @@
--- `join`: its calls are the definition's parts.
-use Rattle.query.specs.StoredAnswer.{join, meeting, branchOf}
+-- `join`: a path row is read off a row that is not sound, or both are found.
+use mathlib.Core.Path.{refl, sym, _∙_}
+use borrow.Author.Tests.{not-true, not-false}
+use Rattle.query.specs.StoredAnswerLaws.{join-by}
 use borrow.Author.Needs.{needs}
 use Rattle.query.proofs.stored.join.Statement.{statement}
 use Rattle.query.proofs.stored.join.Tie as tie
 
-path-row-requires : tie.Need-path-row-requires
-path-row-requires c κs = search needs
-
-path-row-requires-2 : tie.Need-path-row-requires-2
-path-row-requires-2 c κs = search needs
-
-higher-requires : tie.Need-higher-requires
-higher-requires c κs = search needs
-
-branch-at-requires : tie.Need-branch-at-requires
-branch-at-requires c κs = search needs
-
-branch-at-requires-2 : tie.Need-branch-at-requires-2
-branch-at-requires-2 c κs = search needs
-
 is-on-row-requires : tie.Need-is-on-row-requires
 is-on-row-requires c κs = search needs
+
+lost-requires : tie.Need-lost-requires
+lost-requires c κs = search needs
+
+returns : tie.Need-returns
+returns c = c .lost .ensures ∙ sym (join-by _ _ _ (c .before .before .before .before .before .before .pre .1 .0) (c .before .before .before .before .before .before .pre .1 .1 .0) (sym (c .before .before .is-on-row .ensures) ∙ not-true _ (c .before .if1 .taken)) refl)
 
 is-on-row-requires-2 : tie.Need-is-on-row-requires-2
 is-on-row-requires-2 c κs = search needs
 
-forked-requires : tie.Need-forked-requires
-forked-requires c κs = search needs
+lost-requires-2 : tie.Need-lost-requires-2
+lost-requires-2 c κs = search needs
 
-returns : tie.Need-returns
-unfolding join meeting branchOf
-returns c =
-    rw (
-      c .forked .ensures,
-      c .before .before .before .is-on-row2 .ensures,
-      c .before .before .before .before .is-on-row .ensures,
-      c .before .before .before .before .before .branch-at2 .ensures,
-      c .before .before .before .before .before .before .branch-at .ensures,
-      c .before .before .before .before .before .before .before .higher .ensures,
-      c .before .before .before .before .before .before .before .before .path-row2 .ensures,
-      c .before .before .before .before .before .before .before .before .before .path-row .ensures,
-    )
+returns-2 : tie.Need-returns-2
+returns-2 c =
+    let h = c .before .before .before .before .before .before .before .before .pre .1 in
+    let left = sym (c .before .before .before .before .is-on-row .ensures) ∙ not-false _ (c .before .before .before .if1 .left) in
+    c .lost2 .ensures ∙ sym (join-by _ _ _ (h .0) (h .1 .0) left (sym (c .before .before .is-on-row2 .ensures) ∙ not-true _ (c .before .if2 .taken)))
+
+meet-requires : tie.Need-meet-requires
+meet-requires c κs =
+    let h = c .before .before .before .before .before .before .before .pre in
+    let left = sym (c .before .before .before .is-on-row .ensures) ∙ not-false _ (c .before .before .if1 .left) in
+    let right = sym (c .before .is-on-row2 .ensures) ∙ not-false _ (c .if2 .left) in
+    (h .0, (h .1 .1 .1 .0, (h .1 .1 .1 .1, (left, right))))
+
+returns-3 : tie.Need-returns-3
+returns-3 c =
+    let h = c .before .before .before .before .before .before .before .before .pre .1 in
+    let left = sym (c .before .before .before .before .is-on-row .ensures) ∙ not-false _ (c .before .before .before .if1 .left) in
+    let right = sym (c .before .before .is-on-row2 .ensures) ∙ not-false _ (c .before .if2 .left) in
+    c .meet .ensures ∙ sym (join-by _ _ _ (h .0) (h .1 .0) left right)
 
 pub join-spec : {M : Type 1} → statement M
-join-spec =
-    tie.close
-    (tie.spec
-    path-row-requires
-    path-row-requires-2
-    higher-requires
-    branch-at-requires
-    branch-at-requires-2
-    is-on-row-requires
-    is-on-row-requires-2
-    forked-requires
-    returns)
+join-spec = tie.close (tie.spec is-on-row-requires lost-requires returns is-on-row-requires-2 lost-requires-2 returns-2 meet-requires returns-3)
