@@ -9,13 +9,6 @@ use Rattle.echo.specs.WholeLaws.{set-up-not-refused, set-up-state, opens
 use borrow.Author.Needs.{needs}
 use Rattle.echo.proofs.transcript.transcribe.Statement.{statement}
 use Rattle.echo.proofs.transcript.transcribe.Tie as tie
-use Rattle.echo.proofs.transcript.transcribe.Reads as reads
-use Rattle.echo.proofs.transcript.transcribe.Lts as lts
-use Rattle.echo.proofs.page.put_text.Reads as put-text-reads
-use Rattle.echo.proofs.transcript.read_fields.Reads as read-fields-reads
-use Rattle.lines.proofs.end_line.Reads as end-line-reads
-use Rattle.lines.proofs.header.Reads as header-reads
-use Rattle.set_up.proofs.set_up.Reads as set-up-reads
 
 slice-aggregate-set-up : tie.Need-slice-aggregate-set-up
 slice-aggregate-set-up c = search needs

@@ -7,16 +7,6 @@ use Rattle.echo.specs.SessionLaws.{step-from, served-from}
 use borrow.Author.Needs.{needs}
 use Rattle.echo.proofs.turn.take_turn.Statement.{statement}
 use Rattle.echo.proofs.turn.take_turn.Tie as tie
-use Rattle.echo.proofs.turn.take_turn.Reads as reads
-use Rattle.echo.proofs.turn.take_turn.Lts as lts
-use Rattle.echo.proofs.serve.serve_alike.Reads as serve-alike-reads
-use Rattle.echo.proofs.serve.serve_leaf.Reads as serve-leaf-reads
-use Rattle.echo.proofs.serve.serve_question.Reads as serve-question-reads
-use Rattle.echo.proofs.serve.serve_root.Reads as serve-root-reads
-use Rattle.echo.proofs.turn.refused_turn.Reads as refused-turn-reads
-use Rattle.echo.proofs.turn.served_turn.Reads as served-turn-reads
-use Rattle.echo.proofs.turn.silent_turn.Reads as silent-turn-reads
-use Rattle.log.proofs.field_at.Reads as field-at-reads
 
 field-at-requires : tie.Need-field-at-requires
 field-at-requires c κs = search needs
@@ -133,9 +123,11 @@ same-length-4 : tie.Need-same-length-4
 same-length-4 c = search needs
 
 returns-7 : tie.Need-returns-7
-returns-7 c = let a = c .before .before .before .before .before .before .before .before .before .before .before .before .before .before .before .before .before .before .before .before .before .before .before .args in let t = (partsOf (a .fields .now) (a .numbers .now) (a .levels .now) (a .ancestors .now)) in
-    (served-from (a .log .now) (a .scratch .now) (sessionOf t (a .reading)) (c .before .before .before .before .before .before .before .before .before .before .before .before .before .before .before .before .field-at .result) (c .before .before .before .before .before .before .before .before .before .before .before .before .before .before .before .before .field-at .ensures) _ (c .before .before .before .before .before .before .before .before .before .before .before .before .before .before .found6 .given .1) refl
-    (c .served-turn .ensures .0 _) (c .before .before .before .before .before .before .before .before .serve-leaf .ensures), c .served-turn .ensures .1)
+returns-7 c = let a = c .before .before .before .before .before .before .before .before .before .before .before .before .before .before .before .before .before .before .before .before .before .before .before .args in let t = (partsOf (a .fields .now) (a .numbers .now) (a .levels .now) (a .ancestors .now)) in (
+  served-from (a .log .now) (a .scratch .now) (sessionOf t (a .reading)) (c .before .before .before .before .before .before .before .before .before .before .before .before .before .before .before .before .field-at .result) (c .before .before .before .before .before .before .before .before .before .before .before .before .before .before .before .before .field-at .ensures) _ (c .before .before .before .before .before .before .before .before .before .before .before .before .before .before .found6 .given .1) refl
+      (c .served-turn .ensures .0 _) (c .before .before .before .before .before .before .before .before .serve-leaf .ensures),
+  c .served-turn .ensures .1,
+)
 
 same-length-5 : tie.Need-same-length-5
 same-length-5 c = search needs
@@ -150,9 +142,11 @@ same-length-8 : tie.Need-same-length-8
 same-length-8 c = search needs
 
 returns-8 : tie.Need-returns-8
-returns-8 c = let a = c .before .before .before .before .before .before .before .before .before .before .before .before .before .before .before .before .before .before .before .before .before .before .before .args in let t = (partsOf (a .fields .now) (a .numbers .now) (a .levels .now) (a .ancestors .now)) in
-    (served-from (a .log .now) (a .scratch .now) (sessionOf t (a .reading)) (c .before .before .before .before .before .before .before .before .before .before .before .before .before .before .before .before .field-at .result) (c .before .before .before .before .before .before .before .before .before .before .before .before .before .before .before .before .field-at .ensures) _ (c .before .before .before .before .before .before .before .before .before .before .before .before .before .before .found7 .given .1) refl
-    (c .served-turn2 .ensures .0 _) (c .before .before .before .before .before .before .before .before .serve-root .ensures), c .served-turn2 .ensures .1)
+returns-8 c = let a = c .before .before .before .before .before .before .before .before .before .before .before .before .before .before .before .before .before .before .before .before .before .before .before .args in let t = (partsOf (a .fields .now) (a .numbers .now) (a .levels .now) (a .ancestors .now)) in (
+  served-from (a .log .now) (a .scratch .now) (sessionOf t (a .reading)) (c .before .before .before .before .before .before .before .before .before .before .before .before .before .before .before .before .field-at .result) (c .before .before .before .before .before .before .before .before .before .before .before .before .before .before .before .before .field-at .ensures) _ (c .before .before .before .before .before .before .before .before .before .before .before .before .before .before .found7 .given .1) refl
+      (c .served-turn2 .ensures .0 _) (c .before .before .before .before .before .before .before .before .serve-root .ensures),
+  c .served-turn2 .ensures .1,
+)
 
 same-length-9 : tie.Need-same-length-9
 same-length-9 c = search needs
@@ -167,9 +161,11 @@ same-length-12 : tie.Need-same-length-12
 same-length-12 c = search needs
 
 returns-9 : tie.Need-returns-9
-returns-9 c = let a = c .before .before .before .before .before .before .before .before .before .before .before .before .before .before .before .before .args in let t = (partsOf (a .fields .now) (a .numbers .now) (a .levels .now) (a .ancestors .now)) in
-    (served-from (a .log .now) (a .scratch .now) (sessionOf t (a .reading)) (c .before .before .before .before .before .before .before .before .before .field-at .result) (c .before .before .before .before .before .before .before .before .before .field-at .ensures) _ (c .before .before .before .before .before .before .before .found8 .given .1) refl
-    (c .served-turn3 .ensures .0 _) (c .before .serve-question .ensures), c .served-turn3 .ensures .1)
+returns-9 c = let a = c .before .before .before .before .before .before .before .before .before .before .before .before .before .before .before .before .args in let t = (partsOf (a .fields .now) (a .numbers .now) (a .levels .now) (a .ancestors .now)) in (
+  served-from (a .log .now) (a .scratch .now) (sessionOf t (a .reading)) (c .before .before .before .before .before .before .before .before .before .field-at .result) (c .before .before .before .before .before .before .before .before .before .field-at .ensures) _ (c .before .before .before .before .before .before .before .found8 .given .1) refl
+      (c .served-turn3 .ensures .0 _) (c .before .serve-question .ensures),
+  c .served-turn3 .ensures .1,
+)
 
 same-length-13 : tie.Need-same-length-13
 same-length-13 c = search needs
@@ -184,9 +180,11 @@ same-length-16 : tie.Need-same-length-16
 same-length-16 c = search needs
 
 returns-10 : tie.Need-returns-10
-returns-10 c = let a = c .before .before .before .before .before .before .before .before .before .before .before .before .before .before .before .before .args in let t = (partsOf (a .fields .now) (a .numbers .now) (a .levels .now) (a .ancestors .now)) in
-    (served-from (a .log .now) (a .scratch .now) (sessionOf t (a .reading)) (c .before .before .before .before .before .before .before .before .before .field-at .result) (c .before .before .before .before .before .before .before .before .before .field-at .ensures) _ (c .before .before .before .before .before .before .before .found9 .given .1) refl
-    (c .served-turn4 .ensures .0 _) (c .before .serve-alike .ensures), c .served-turn4 .ensures .1)
+returns-10 c = let a = c .before .before .before .before .before .before .before .before .before .before .before .before .before .before .before .before .args in let t = (partsOf (a .fields .now) (a .numbers .now) (a .levels .now) (a .ancestors .now)) in (
+  served-from (a .log .now) (a .scratch .now) (sessionOf t (a .reading)) (c .before .before .before .before .before .before .before .before .before .field-at .result) (c .before .before .before .before .before .before .before .before .before .field-at .ensures) _ (c .before .before .before .before .before .before .before .found9 .given .1) refl
+      (c .served-turn4 .ensures .0 _) (c .before .serve-alike .ensures),
+  c .served-turn4 .ensures .1,
+)
 
 pub take-turn-spec : {M : Type 1} → statement M
 take-turn-spec =
