@@ -10,3 +10,4 @@ pub mod PageLaws
 pub mod PlaceLaws
 pub mod TranscriptLaws
 pub mod WholeLaws
+pub mod Exact

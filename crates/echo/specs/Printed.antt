@@ -6,7 +6,7 @@ use lib.IntN.{ℤ, pos}
 use lib.ListN.{take}
 use Rattle.rows.specs.Row.{levelAt}
 use Rattle.sequence.specs.Calls.{Call, leaf, root, question, alike, inspection, Reply, refused, grown, answered, same, inspected}
-use Rattle.sequence.specs.Run.{Fast, Turn, step}
+use Rattle.sequence.specs.Run.{Turn}
 use Rattle.echo.specs.declared.reply.Shown.{Shown}
 
 pub record Printed : Type 0 where

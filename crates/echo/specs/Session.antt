@@ -1,6 +1,6 @@
 -- The fields of a log one after another (01, "Program and figures to check").
 use mathlib.Core.Bool.{Bool, true, false, not}
-use mathlib.Core.List.{List, [], _∷_}
+use mathlib.Core.List.{List, []}
 use Prim.Native.Nat.{ℕ, _+_}
 use lib.Dec.{eqb}
 use lib.ListN.{getD, take}
@@ -54,9 +54,13 @@ reported ordinal total next r =
       after = record { place = next; ordinal = ordinal + 1; total = total + r .rows; fast = r .after; on = true };
     }
 
+-- a step that prints no line and asks nothing of the table
+abbrev pub silent : Session → ℕ → ℕ → Bool → Step
+silent s place ordinal on = record { text = []; after = record { place = place; ordinal = ordinal; total = s .total; fast = s .fast; on = on } }
+
 -- filler takes an ordinal and prints no line
 abbrev pub filled : Session → ℕ → Step
-filled s next = record { text = []; after = record { place = next; ordinal = s .ordinal + 1; total = s .total; fast = s .fast; on = true } }
+filled s next = silent s next (s .ordinal + 1) true
 
 -- a refusal of the reader prints its line; refusal 8 ends the reading
 abbrev pub refusedField : Session → ℕ → ℕ → Step
@@ -68,7 +72,7 @@ refusedField s n next =
 
 -- the log's end
 abbrev pub ended : Session → Step
-ended s = record { text = []; after = record { place = s .place; ordinal = s .ordinal; total = s .total; fast = s .fast; on = false } }
+ended s = silent s (s .place) (s .ordinal) false
 
 abbrev pub wholeField : Session → ℕ → Asked → Step
 wholeField s next (call q) = reported (s .ordinal) (s .total) next (report (s .fast) q)

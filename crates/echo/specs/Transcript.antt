@@ -9,7 +9,7 @@ use Rattle.lines.specs.Line.{headerLine, endLine}
 use Rattle.rows.specs.Layout.{fieldStride, numberStride, entryStride}
 use Rattle.rows.specs.Row.{Parts, partsOf}
 use Rattle.sequence.specs.Run.{start}
-use Rattle.echo.specs.Session.{Session, Step, stepOf}
+use Rattle.echo.specs.Session.{Session, stepOf}
 
 -- what the fields printed, and where the reading ended
 pub record Reached : Type 0 where

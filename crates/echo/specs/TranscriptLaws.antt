@@ -1,7 +1,7 @@
 -- The loop over the fields: what was printed so far and what the rest will print make the whole.
 use mathlib.Core.Path.{_≡_, refl, sym, ap, _∙_}
 use mathlib.Core.Bool.{true, false}
-use mathlib.Core.List.{List, [], _++_, append-assoc, append-nil}
+use mathlib.Core.List.{List, _++_, append-assoc, append-nil}
 use Prim.Native.Nat.{ℕ, zero, suc, _+_, _*_, _≤_, _<_}
 use native.Mathlib.Omega.{arith}
 use lib.ListN.{length, take}
@@ -14,12 +14,12 @@ use Rattle.echo.specs.PlaceLaws.{Moves, step-moves, left, left-falls}
 use Rattle.echo.specs.Transcript.{Reached, stopped, before, readFrom, readLog}
 
 module _ (log scratch : List ℕ) where
-  read-on : (n : ℕ) (s : Session) → s .on ≡ true
+  pub read-on : (n : ℕ) (s : Session) → s .on ≡ true
       → readFrom (suc n) log scratch s ≡ before (stepOf log scratch s .text) (readFrom n log scratch (stepOf log scratch s .after))
   unfolding readFrom
   read-on n s e = rw e
 
-  read-off : (n : ℕ) (s : Session) → s .on ≡ false → readFrom n log scratch s ≡ stopped s
+  pub read-off : (n : ℕ) (s : Session) → s .on ≡ false → readFrom n log scratch s ≡ stopped s
   unfolding readFrom
   read-off zero s e = refl
   read-off (suc n) s e = rw e

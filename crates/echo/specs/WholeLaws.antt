@@ -26,7 +26,7 @@ use Rattle.echo.specs.Transcript.{readLog, rows, lent, scratch, opening,
 
 -- ---- set-up
 
-lent-fits : Fits rows lent
+pub lent-fits : Fits rows lent
 lent-fits =
     record {
       least = omega arith;

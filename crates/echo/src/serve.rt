@@ -10,7 +10,6 @@ use growth::add_root;
 use query::characteristic_ancestors;
 use rows::state::State;
 ghost use mathlib.Core.Path.{_≡_};
-ghost use lib.ListN.{length};
 ghost use Rattle.rows.specs.Row.{partsOf};
 ghost use Rattle.sequence.specs.Calls.{leaf, root, question, alike};
 ghost use Rattle.sequence.specs.Run.{grownReply, rowsIn, stateAfter};

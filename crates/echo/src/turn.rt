@@ -11,11 +11,11 @@ use log::Field;
 use log::field_at;
 use rows::state::State;
 ghost use mathlib.Core.Path.{_≡_};
-ghost use Prim.Native.Nat.{_<_};
+ghost use Prim.Native.Nat.{_+_, _≤_};
 ghost use Rattle.rows.specs.Row.{Parts, partsOf};
 ghost use Rattle.echo.specs.Bounds.{Grows, Small};
 ghost use Rattle.echo.specs.Report.{reportOf};
-ghost use Rattle.echo.specs.Session.{ended, filled, refusedField, reported, sessionOf, stepOf, turnOf};
+ghost use Rattle.echo.specs.Session.{refusedField, reported, sessionOf, silent, stepOf, turnOf};
 
 // How far the log is read, the ordinal of the next field, the rows renumbered so far, count and root, and whether the reading goes on.
 pub struct Reading {
@@ -32,10 +32,10 @@ pub struct Turn {
     pub reading: Reading,
 }
 
-// The log's end.
-fn end_turn(reading: Reading) -> Turn
-    ensures step { λ r. ⌜ ((t : Parts) → turnOf t r ≡ ended (sessionOf t reading)) ⌝ }
-    ensures grows { λ r. ⌜ Grows reading r ⌝ }
+// A field that prints no line, or the log's end.
+fn silent_turn(reading: Reading, place: usize, ordinal: u32, on: bool) -> Turn
+    ensures step { λ r. ⌜ ((t : Parts) → turnOf t r ≡ silent (sessionOf t reading) place ordinal on) ⌝ }
+    ensures grows { λ r. ⌜ (ordinal ≤ reading .ordinal + 1 → Grows reading r) ⌝ }
 {
     let state = reading.state;
     Turn {
@@ -44,33 +44,11 @@ fn end_turn(reading: Reading) -> Turn
             len: 0,
         },
         reading: Reading {
-            place: reading.place,
-            ordinal: reading.ordinal,
+            place: place,
+            ordinal: ordinal,
             total: reading.total,
             state: state,
-            on: false,
-        },
-    }
-}
-
-// Filler.
-fn filler_turn(reading: Reading, next: usize) -> Turn
-    requires { ⌜ Small reading ⌝ }
-    ensures step { λ r. ⌜ ((t : Parts) → turnOf t r ≡ filled (sessionOf t reading) next) ⌝ }
-    ensures grows { λ r. ⌜ Grows reading r ⌝ }
-{
-    let state = reading.state;
-    Turn {
-        text: Text {
-            bytes: [0; 96],
-            len: 0,
-        },
-        reading: Reading {
-            place: next,
-            ordinal: reading.ordinal + 1,
-            total: reading.total,
-            state: state,
-            on: true,
+            on: on,
         },
     }
 }
@@ -134,12 +112,12 @@ pub fn take_turn(
     let state = reading.state;
     let found = field_at(log, reading.place);
     match found {
-        Field::End => end_turn(reading),
+        Field::End => silent_turn(reading, reading.place, reading.ordinal, false),
         Field::BadTag(next) => refused_turn(reading, 6, next),
         Field::BadLength(next) => refused_turn(reading, 7, next),
         Field::Truncated(next) => refused_turn(reading, 8, next),
         Field::DirtyFiller(next) => refused_turn(reading, 9, next),
-        Field::Filler(next) => filler_turn(reading, next),
+        Field::Filler(next) => silent_turn(reading, next, reading.ordinal + 1, true),
         Field::Leaf {
             parent,
             label,

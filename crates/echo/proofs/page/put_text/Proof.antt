@@ -5,8 +5,6 @@ use native.Mathlib.Omega.{arith}
 use Rattle.echo.specs.PageLaws.{Copied, copied-none, copied-more}
 use Rattle.echo.proofs.page.put_text.Statement.{statement}
 use Rattle.echo.proofs.page.put_text.Tie as tie
-use Rattle.echo.proofs.page.put_text.Reads as reads
-use Rattle.echo.proofs.page.put_text.Lts as lts
 
 abbrev Inv-loop : tie.InvT-loop
 Inv-loop out₀ filled bytes len i₀ out i = (i ≤ len) × Copied out₀ filled bytes out i

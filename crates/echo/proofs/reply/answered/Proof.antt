@@ -4,12 +4,6 @@ use Rattle.echo.specs.PrintedLaws.{six-printed}
 use borrow.Author.Needs.{needs}
 use Rattle.echo.proofs.reply.answered.Statement.{statement}
 use Rattle.echo.proofs.reply.answered.Tie as tie
-use Rattle.echo.proofs.reply.answered.Reads as reads
-use Rattle.echo.proofs.reply.answered.Lts as lts
-use Rattle.echo.proofs.reply.first_of.Reads as first-of-reads
-use Rattle.echo.proofs.reply.refused.Reads as refused-reads
-use Rattle.echo.proofs.reply.value.Reads as value-reads
-use Rattle.rows.proofs.refusal.number_of.Reads as number-of-reads
 
 enum-known-a : tie.Need-enum-known-a
 enum-known-a c = search needs

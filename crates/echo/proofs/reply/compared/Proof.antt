@@ -3,12 +3,6 @@ use Rattle.echo.specs.PrintedLaws.{one-printed}
 use borrow.Author.Needs.{needs}
 use Rattle.echo.proofs.reply.compared.Statement.{statement}
 use Rattle.echo.proofs.reply.compared.Tie as tie
-use Rattle.echo.proofs.reply.compared.Reads as reads
-use Rattle.echo.proofs.reply.compared.Lts as lts
-use Rattle.echo.proofs.reply.first_of.Reads as first-of-reads
-use Rattle.echo.proofs.reply.refused.Reads as refused-reads
-use Rattle.echo.proofs.reply.value.Reads as value-reads
-use Rattle.rows.proofs.refusal.number_of.Reads as number-of-reads
 
 enum-known-c : tie.Need-enum-known-c
 enum-known-c c = search needs

@@ -3,13 +3,6 @@ use Rattle.echo.specs.PrintedLaws.{three-printed}
 use borrow.Author.Needs.{needs}
 use Rattle.echo.proofs.reply.grown.Statement.{statement}
 use Rattle.echo.proofs.reply.grown.Tie as tie
-use Rattle.echo.proofs.reply.grown.Reads as reads
-use Rattle.echo.proofs.reply.grown.Lts as lts
-use Rattle.echo.proofs.reply.first_of.Reads as first-of-reads
-use Rattle.echo.proofs.reply.refused.Reads as refused-reads
-use Rattle.echo.proofs.reply.value.Reads as value-reads
-use Rattle.rows.proofs.refusal.number_of.Reads as number-of-reads
-use Rattle.rows.proofs.row.level.Reads as level-reads
 
 enum-known-g : tie.Need-enum-known-g
 enum-known-g c = search needs

@@ -1,14 +1,8 @@
 -- `refused`: one value.
 use Rattle.echo.specs.PrintedLaws.{one-printed}
-use mathlib.Core.Path.{ap}
-use Rattle.echo.specs.Printed.{printedOf}
 use borrow.Author.Needs.{needs}
 use Rattle.echo.proofs.reply.refused.Statement.{statement}
 use Rattle.echo.proofs.reply.refused.Tie as tie
-use Rattle.echo.proofs.reply.refused.Reads as reads
-use Rattle.echo.proofs.reply.refused.Lts as lts
-use Rattle.echo.proofs.reply.first_of.Reads as first-of-reads
-use Rattle.echo.proofs.reply.value.Reads as value-reads
 
 value-requires : tie.Need-value-requires
 value-requires c κs = search needs

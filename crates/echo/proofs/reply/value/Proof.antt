@@ -5,8 +5,6 @@ use mir.ValLaws.{toZ-pos}
 use borrow.Author.Needs.{needs}
 use Rattle.echo.proofs.reply.value.Statement.{statement}
 use Rattle.echo.proofs.reply.value.Tie as tie
-use Rattle.echo.proofs.reply.value.Reads as reads
-use Rattle.echo.proofs.reply.value.Lts as lts
 
 cast-result : tie.Need-cast-result
 cast-result c = search needs

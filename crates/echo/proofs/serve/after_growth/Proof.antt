@@ -3,9 +3,6 @@ use mathlib.Core.Path.{refl}
 use borrow.Author.Needs.{needs}
 use Rattle.echo.proofs.serve.after_growth.Statement.{statement}
 use Rattle.echo.proofs.serve.after_growth.Tie as tie
-use Rattle.echo.proofs.serve.after_growth.Reads as reads
-use Rattle.echo.proofs.serve.after_growth.Lts as lts
-use Rattle.echo.proofs.reply.grown.Reads as grown-reads
 
 grown-requires : tie.Need-grown-requires
 grown-requires c κs = search needs

@@ -3,10 +3,6 @@ use Rattle.echo.specs.ReportLaws.{alike-report}
 use borrow.Author.Needs.{needs}
 use Rattle.echo.proofs.serve.serve_alike.Statement.{statement}
 use Rattle.echo.proofs.serve.serve_alike.Tie as tie
-use Rattle.echo.proofs.serve.serve_alike.Reads as reads
-use Rattle.echo.proofs.serve.serve_alike.Lts as lts
-use Rattle.alike.proofs.same_labels.Reads as same-labels-reads
-use Rattle.echo.proofs.reply.compared.Reads as compared-reads
 
 same-labels-requires : tie.Need-same-labels-requires
 same-labels-requires c κs = search needs

@@ -4,10 +4,6 @@ use Rattle.echo.specs.ReportLaws.{leaf-report}
 use borrow.Author.Needs.{needs}
 use Rattle.echo.proofs.serve.serve_leaf.Statement.{statement}
 use Rattle.echo.proofs.serve.serve_leaf.Tie as tie
-use Rattle.echo.proofs.serve.serve_leaf.Reads as reads
-use Rattle.echo.proofs.serve.serve_leaf.Lts as lts
-use Rattle.echo.proofs.serve.after_growth.Reads as after-growth-reads
-use Rattle.growth.proofs.add_leaf.Reads as add-leaf-reads
 
 add-leaf-requires : tie.Need-add-leaf-requires
 add-leaf-requires c κs = search needs

@@ -3,10 +3,6 @@ use Rattle.echo.specs.ReportLaws.{question-report}
 use borrow.Author.Needs.{needs}
 use Rattle.echo.proofs.serve.serve_question.Statement.{statement}
 use Rattle.echo.proofs.serve.serve_question.Tie as tie
-use Rattle.echo.proofs.serve.serve_question.Reads as reads
-use Rattle.echo.proofs.serve.serve_question.Lts as lts
-use Rattle.echo.proofs.reply.answered.Reads as answered-reads
-use Rattle.query.proofs.characteristic_ancestors.Reads as characteristic-ancestors-reads
 
 characteristic-ancestors-requires : tie.Need-characteristic-ancestors-requires
 characteristic-ancestors-requires c κs = search needs

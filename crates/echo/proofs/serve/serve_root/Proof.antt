@@ -4,10 +4,6 @@ use Rattle.echo.specs.ReportLaws.{root-report}
 use borrow.Author.Needs.{needs}
 use Rattle.echo.proofs.serve.serve_root.Statement.{statement}
 use Rattle.echo.proofs.serve.serve_root.Tie as tie
-use Rattle.echo.proofs.serve.serve_root.Reads as reads
-use Rattle.echo.proofs.serve.serve_root.Lts as lts
-use Rattle.echo.proofs.serve.after_growth.Reads as after-growth-reads
-use Rattle.growth.proofs.add_root.Reads as add-root-reads
 
 add-root-requires : tie.Need-add-root-requires
 add-root-requires c κs = search needs

@@ -8,10 +8,6 @@ use lib.ListN.{length}
 use Rattle.rows.specs.Row.{partsOf}
 use Rattle.echo.proofs.transcript.read_fields.Statement.{statement}
 use Rattle.echo.proofs.transcript.read_fields.Tie as tie
-use Rattle.echo.proofs.transcript.read_fields.Reads as reads
-use Rattle.echo.proofs.transcript.read_fields.Lts as lts
-use Rattle.echo.proofs.page.put_text.Reads as put-text-reads
-use Rattle.echo.proofs.turn.take_turn.Reads as take-turn-reads
 
 abbrev Inv-loop : tie.InvT-loop
 Inv-loop log out₀ fields₀ numbers₀ levels₀ ancestors₀ scratch header reading₀ filled₀ out fields numbers levels ancestors reading filled =

@@ -9,13 +9,6 @@ use Rattle.echo.specs.WholeLaws.{set-up-not-refused, set-up-state, opens
 use borrow.Author.Needs.{needs}
 use Rattle.echo.proofs.transcript.transcribe.Statement.{statement}
 use Rattle.echo.proofs.transcript.transcribe.Tie as tie
-use Rattle.echo.proofs.transcript.transcribe.Reads as reads
-use Rattle.echo.proofs.transcript.transcribe.Lts as lts
-use Rattle.echo.proofs.page.put_text.Reads as put-text-reads
-use Rattle.echo.proofs.transcript.read_fields.Reads as read-fields-reads
-use Rattle.lines.proofs.end_line.Reads as end-line-reads
-use Rattle.lines.proofs.header.Reads as header-reads
-use Rattle.set_up.proofs.set_up.Reads as set-up-reads
 
 slice-aggregate-set-up : tie.Need-slice-aggregate-set-up
 slice-aggregate-set-up c = search needs
@@ -84,11 +77,12 @@ returns-2 c = let log = c .before .before .before .before .before .before .befor
     let room : read .result .filled ≤ 32 * length log + 192 = read .ensures .1 .1 in
     let kept : length (c .before .before .put-text2 .last .0) ≡ length (c .before .before .before .before .before .before .before .before .before .before .before .before .before .before .before .before .before .before .before .before .before .before .before .before .before .before .before .before .before .before .before .before .before .before .before .before .before .before .before .before .args .out .now) = same-length c in
     let within : c .before .before .put-text2 .result ≤ length (c .before .before .put-text2 .last .0) = omega (arith, c .before .before .before .before .before .before .before .before .before .before .before .before .before .before .before .before .before .before .before .before .before .before .before .before .before .before .before .before .before .before .before .before .before .before .before .before .before .before .before .before .pre .buffer, c .before .before .before .before .before .before .before .before .before .before .before .before .before .before .before .before .before .before .before .before .before .before .before .before .before .before .before .before .before .before .before .before .before .before .before .before .before .before .before .before .pre .log) in
-    let state = set-up-state (c .before .before .before .before .before .before .before .before .before .before .before .before .before .before .before .before .before .before .before .before .before .before .before .before .before .before .before .before .before .before .before .before .before .set-up .result) _ (c .before .before .before .before .before .before .before .before .before .before .before .before .before .before .before .before .before .before .before .before .before .before .before .before .before .before .before .before .before .before .before .before .before .set-up .ensures .0) (c .before .before .before .before .before .before .before .before .before .before .before .before .before .before .before .before .before .before .before .before .before .before .before .before .before .before .before .state .given .1) in
-    (transcribed log _ _ (read .result .reading) (c .before .before .before .before .before .before .before .before .before .before .before .before .before .before .before .before .before .before .before .before .before .before .before .before .header .result) (c .before .before .before .end-line .result)
-    (opens _ _ (c .before .before .before .before .before .before .before .before .before .before .before .before .before .before .before .before .before .before .before .before .before .before .before .before .before .before .before .before .before .before .before .before .before .set-up .ensures .1) state) (c .before .before .before .before .before .before .before .before .before .before .before .before .before .before .before .before .before .before .before .before .before .before .before .before .header .ensures .0) (c .before .before .before .before .before .before .before .before .before .before .before .before .before .before .before .before .before .before .before .before .before .before .before .put-text .ensures .0)
-    (read .ensures .0) (read .ensures .1 .0) (c .before .before .before .end-line .ensures .0) (c .before .before .put-text2 .ensures .0),
-    (within, sym (length-take-le (c .before .before .put-text2 .result) _ within)))
+    let state = set-up-state (c .before .before .before .before .before .before .before .before .before .before .before .before .before .before .before .before .before .before .before .before .before .before .before .before .before .before .before .before .before .before .before .before .before .set-up .result) _ (c .before .before .before .before .before .before .before .before .before .before .before .before .before .before .before .before .before .before .before .before .before .before .before .before .before .before .before .before .before .before .before .before .before .set-up .ensures .0) (c .before .before .before .before .before .before .before .before .before .before .before .before .before .before .before .before .before .before .before .before .before .before .before .before .before .before .before .state .given .1) in (
+      transcribed log _ _ (read .result .reading) (c .before .before .before .before .before .before .before .before .before .before .before .before .before .before .before .before .before .before .before .before .before .before .before .before .header .result) (c .before .before .before .end-line .result)
+          (opens _ _ (c .before .before .before .before .before .before .before .before .before .before .before .before .before .before .before .before .before .before .before .before .before .before .before .before .before .before .before .before .before .before .before .before .before .set-up .ensures .1) state) (c .before .before .before .before .before .before .before .before .before .before .before .before .before .before .before .before .before .before .before .before .before .before .before .before .header .ensures .0) (c .before .before .before .before .before .before .before .before .before .before .before .before .before .before .before .before .before .before .before .before .before .before .before .put-text .ensures .0)
+          (read .ensures .0) (read .ensures .1 .0) (c .before .before .before .end-line .ensures .0) (c .before .before .put-text2 .ensures .0),
+      (within, sym (length-take-le (c .before .before .put-text2 .result) _ within)),
+    )
 
 pub transcribe-spec : {M : Type 1} → statement M
 transcribe-spec =

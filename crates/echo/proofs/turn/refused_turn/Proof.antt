@@ -4,10 +4,6 @@ use Rattle.echo.specs.SessionLaws.{refused-step, text-holds}
 use borrow.Author.Needs.{needs}
 use Rattle.echo.proofs.turn.refused_turn.Statement.{statement}
 use Rattle.echo.proofs.turn.refused_turn.Tie as tie
-use Rattle.echo.proofs.turn.refused_turn.Reads as reads
-use Rattle.echo.proofs.turn.refused_turn.Lts as lts
-use Rattle.echo.proofs.reply.refused.Reads as refused-reads
-use Rattle.lines.proofs.line.Reads as line-reads
 
 refused-requires : tie.Need-refused-requires
 refused-requires c κs = search needs

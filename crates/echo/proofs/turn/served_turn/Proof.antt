@@ -4,9 +4,6 @@ use Rattle.echo.specs.SessionLaws.{served-step, text-holds}
 use borrow.Author.Needs.{needs}
 use Rattle.echo.proofs.turn.served_turn.Statement.{statement}
 use Rattle.echo.proofs.turn.served_turn.Tie as tie
-use Rattle.echo.proofs.turn.served_turn.Reads as reads
-use Rattle.echo.proofs.turn.served_turn.Lts as lts
-use Rattle.lines.proofs.line.Reads as line-reads
 
 line-requires : tie.Need-line-requires
 line-requires c κs = search needs

@@ -1,22 +1,12 @@
 -- `take_turn` goes by the case of the field.
 use mathlib.Core.Path.{refl, _∙_}
+use native.Mathlib.Omega.{arith}
 use Rattle.rows.specs.Row.{partsOf}
 use Rattle.echo.specs.Session.{sessionOf}
 use Rattle.echo.specs.SessionLaws.{step-from, served-from}
 use borrow.Author.Needs.{needs}
 use Rattle.echo.proofs.turn.take_turn.Statement.{statement}
 use Rattle.echo.proofs.turn.take_turn.Tie as tie
-use Rattle.echo.proofs.turn.take_turn.Reads as reads
-use Rattle.echo.proofs.turn.take_turn.Lts as lts
-use Rattle.echo.proofs.serve.serve_alike.Reads as serve-alike-reads
-use Rattle.echo.proofs.serve.serve_leaf.Reads as serve-leaf-reads
-use Rattle.echo.proofs.serve.serve_question.Reads as serve-question-reads
-use Rattle.echo.proofs.serve.serve_root.Reads as serve-root-reads
-use Rattle.echo.proofs.turn.end_turn.Reads as end-turn-reads
-use Rattle.echo.proofs.turn.filler_turn.Reads as filler-turn-reads
-use Rattle.echo.proofs.turn.refused_turn.Reads as refused-turn-reads
-use Rattle.echo.proofs.turn.served_turn.Reads as served-turn-reads
-use Rattle.log.proofs.field_at.Reads as field-at-reads
 
 field-at-requires : tie.Need-field-at-requires
 field-at-requires c κs = search needs
@@ -24,8 +14,8 @@ field-at-requires c κs = search needs
 enum-told : tie.Need-enum-told
 enum-told c = search needs
 
-end-turn-requires : tie.Need-end-turn-requires
-end-turn-requires c κs = search needs
+silent-turn-requires : tie.Need-silent-turn-requires
+silent-turn-requires c κs = search needs
 
 enum-known-found : tie.Need-enum-known-found
 enum-known-found c = search needs
@@ -54,8 +44,11 @@ refused-turn-requires-4 c κs = search needs
 enum-known-found-5 : tie.Need-enum-known-found-5
 enum-known-found-5 c = search needs
 
-filler-turn-requires : tie.Need-filler-turn-requires
-filler-turn-requires c κs = search needs
+add-silent-turn : tie.Need-add-silent-turn
+add-silent-turn c = search needs
+
+silent-turn-requires-2 : tie.Need-silent-turn-requires-2
+silent-turn-requires-2 c κs = search needs
 
 enum-known-found-6 : tie.Need-enum-known-found-6
 enum-known-found-6 c = search needs
@@ -95,7 +88,7 @@ served-turn-requires-4 c κs = search needs
 
 returns : tie.Need-returns
 returns c = let a = c .before .before .before .before .before .before .before .before .before .before .args in let t = (partsOf (a .fields .now) (a .numbers .now) (a .levels .now) (a .ancestors .now)) in
-    (c .end-turn .ensures .0 t ∙ step-from (a .log .now) (a .scratch .now) (sessionOf t (a .reading)) (c .before .before .before .field-at .result) (c .before .before .before .field-at .ensures) _ (c .before .enum-told .given .1), c .end-turn .ensures .1)
+    (c .silent-turn .ensures .0 t ∙ step-from (a .log .now) (a .scratch .now) (sessionOf t (a .reading)) (c .before .before .before .field-at .result) (c .before .before .before .field-at .ensures) _ (c .before .enum-told .given .1), c .silent-turn .ensures .1 (omega arith))
 
 returns-2 : tie.Need-returns-2
 returns-2 c = let a = c .before .before .before .before .before .before .before .before .before .before .before .args in let t = (partsOf (a .fields .now) (a .numbers .now) (a .levels .now) (a .ancestors .now)) in
@@ -114,8 +107,8 @@ returns-5 c = let a = c .before .before .before .before .before .before .before 
     (c .refused-turn4 .ensures .0 t ∙ step-from (a .log .now) (a .scratch .now) (sessionOf t (a .reading)) (c .before .before .before .before .field-at .result) (c .before .before .before .before .field-at .ensures) _ (c .before .before .found4 .given .1), c .refused-turn4 .ensures .1)
 
 returns-6 : tie.Need-returns-6
-returns-6 c = let a = c .before .before .before .before .before .before .before .before .before .before .before .args in let t = (partsOf (a .fields .now) (a .numbers .now) (a .levels .now) (a .ancestors .now)) in
-    (c .filler-turn .ensures .0 t ∙ step-from (a .log .now) (a .scratch .now) (sessionOf t (a .reading)) (c .before .before .before .before .field-at .result) (c .before .before .before .before .field-at .ensures) _ (c .before .before .found5 .given .1), c .filler-turn .ensures .1)
+returns-6 c = let a = c .before .before .before .before .before .before .before .before .before .before .before .before .args in let t = (partsOf (a .fields .now) (a .numbers .now) (a .levels .now) (a .ancestors .now)) in
+    (c .silent-turn2 .ensures .0 t ∙ step-from (a .log .now) (a .scratch .now) (sessionOf t (a .reading)) (c .before .before .before .before .before .field-at .result) (c .before .before .before .before .before .field-at .ensures) _ (c .before .before .before .found5 .given .1), c .silent-turn2 .ensures .1 (omega arith))
 
 same-length : tie.Need-same-length
 same-length c = search needs
@@ -199,7 +192,7 @@ take-turn-spec =
     (tie.spec
     field-at-requires
     enum-told
-    end-turn-requires
+    silent-turn-requires
     enum-known-found
     refused-turn-requires
     enum-known-found-2
@@ -209,7 +202,8 @@ take-turn-spec =
     enum-known-found-4
     refused-turn-requires-4
     enum-known-found-5
-    filler-turn-requires
+    add-silent-turn
+    silent-turn-requires-2
     enum-known-found-6
     serve-leaf-requires
     served-turn-requires
