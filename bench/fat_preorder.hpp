@@ -176,12 +176,19 @@ private:
         row.start = u == NONE ? 0 : rows[u].next_free;
         row.next_free = p(x);
         if (u != NONE) rows[u].next_free = end(x);
-        uint64_t reach = 3 * fourth(s);
-        for (int i = 0; i < ENTRIES; i++) {
-            uint16_t e = u == NONE ? NONE : entries[u][i];
-            entries[x][i] = e == NONE && reach < powers[i] ? x : e;
-        }
+        fill(x, u, 3 * fourth(s));
         given++;
+    }
+
+    // The entries of the upper row, and x itself from the first index whose power lies above its reach, where there is none.
+    void fill(uint16_t x, uint16_t u, uint64_t reach) {
+        auto &to = entries[x];
+        if (u == NONE)
+            to.fill(NONE);
+        else
+            to = entries[u];
+        for (size_t i = size_t(std::upper_bound(powers.begin(), powers.end(), reach) - powers.begin()); i < ENTRIES; i++)
+            to[i] = to[i] == NONE ? x : to[i];
     }
 
     bool tree_holds(uint32_t n) {

@@ -31,7 +31,7 @@ use Rattle.rows.specs.declared.refusal.Refusal.the-variants.{Misfit}
 use Rattle.inspect.specs.declared.Inspected.{Inspected}
 use Rattle.inspect.specs.declared.Inspected.the-variants.{Passes, Refused}
 use Rattle.inspect.specs.Inspection.{inspection, inspectionIn, Inspection}
-use Rattle.desk.specs.Reply.{Reply, reply, misfit, madeReply, grownReply, questionReply, alikeReply, inspectionReply}
+use Rattle.replies.specs.Reply.{Reply, reply, misfit, madeReply, grownReply, questionReply, alikeReply, inspectionReply}
 use Rattle.desk.specs.TableCalls.{onLength, outcome, setUpCall, leafCall, rootCall, questionCall, alikeCall, inspectionCall, InspectionCall}
 
 -- Any out slice
