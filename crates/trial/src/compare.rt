@@ -50,7 +50,14 @@ fn are_nodes(count: u16, x: u16, y: u16) -> bool {
     y < count
 }
 
-fn agrees_on_query(parents: &[u16], labels: &[u16], count: u16, x: u16, y: u16, found: Answered) -> bool {
+fn agrees_on_query(
+    parents: &[u16],
+    labels: &[u16],
+    count: u16,
+    x: u16,
+    y: u16,
+    found: Answered,
+) -> bool {
     let known = are_nodes(count, x, y);
     match found {
         Answered::Answer(a) => known && is_answer(parents, labels, x, y, a),
@@ -58,7 +65,14 @@ fn agrees_on_query(parents: &[u16], labels: &[u16], count: u16, x: u16, y: u16, 
     }
 }
 
-fn agrees_on_labels(parents: &[u16], labels: &[u16], count: u16, x: u16, y: u16, found: Compared) -> bool {
+fn agrees_on_labels(
+    parents: &[u16],
+    labels: &[u16],
+    count: u16,
+    x: u16,
+    y: u16,
+    found: Compared,
+) -> bool {
     let known = are_nodes(count, x, y);
     match found {
         Compared::Same(same) => known && same == alike(parents, labels, x, y),
@@ -114,7 +128,18 @@ fn ask_row(
     let mut t = tally;
     let mut y: u16 = 0;
     while y < ASKED {
-        t = ask_pair(fields, numbers, levels, ancestors, parents, labels, state, t, x, y);
+        t = ask_pair(
+            fields,
+            numbers,
+            levels,
+            ancestors,
+            parents,
+            labels,
+            state,
+            t,
+            x,
+            y,
+        );
         y += 1;
     }
     t
@@ -134,7 +159,17 @@ pub fn ask_all(
     let mut t = tally;
     let mut x: u16 = 0;
     while x < ASKED {
-        t = ask_row(fields, numbers, levels, ancestors, parents, labels, state, t, x);
+        t = ask_row(
+            fields,
+            numbers,
+            levels,
+            ancestors,
+            parents,
+            labels,
+            state,
+            t,
+            x,
+        );
         x += 1;
     }
     t

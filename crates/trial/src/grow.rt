@@ -29,7 +29,11 @@ pub struct Run {
 }
 
 fn plus(total: u64, rows: u16) -> u64 {
-    if total < 1000000000 { total + rows as u64 } else { total }
+    if total < 1000000000 {
+        total + rows as u64
+    } else {
+        total
+    }
 }
 
 // Whether a served growth is the plain list's, and paid for: at most 120 rows to a node.
@@ -51,7 +55,15 @@ fn is_growth(before: Tree, after: Tree, refusal: u16, total: u64, found: Growth)
 }
 
 // The run after a growth; `refusal` is the plain list's, `after` its tree where it serves.
-fn after_growth(run: Run, refusal: u16, after: Tree, found: Grown, letter: u8, x: u16, y: u16) -> Run {
+fn after_growth(
+    run: Run,
+    refusal: u16,
+    after: Tree,
+    found: Grown,
+    letter: u8,
+    x: u16,
+    y: u16,
+) -> Run {
     let state = run.state;
     let before = run.tree;
     let tally = run.tally;
@@ -69,7 +81,13 @@ fn after_growth(run: Run, refusal: u16, after: Tree, found: Grown, letter: u8, x
             Run {
                 state: grown,
                 tree: after,
-                tally: noted(tally, is_growth(before, after, refusal, total, g), letter, x, y),
+                tally: noted(
+                    tally,
+                    is_growth(before, after, refusal, total, g),
+                    letter,
+                    x,
+                    y,
+                ),
                 total: total,
                 seed: run.seed,
             }
@@ -90,7 +108,15 @@ fn grow_leaf(
     let state = run.state;
     let tree = run.tree;
     let found = add_leaf(fields, numbers, levels, ancestors, scratch, state, x, y);
-    after_growth(run, leaf_refusal(tree, x, y), with_leaf(tree, x, y), found, b'L', x, y)
+    after_growth(
+        run,
+        leaf_refusal(tree, x, y),
+        with_leaf(tree, x, y),
+        found,
+        b'L',
+        x,
+        y,
+    )
 }
 
 fn grow_root(
@@ -128,7 +154,16 @@ fn grow(
         return grow_root(fields, numbers, levels, ancestors, scratch, r);
     }
     let x = parent(shape, tree.count, first, second);
-    grow_leaf(fields, numbers, levels, ancestors, scratch, r, x, label(turn, third))
+    grow_leaf(
+        fields,
+        numbers,
+        levels,
+        ancestors,
+        scratch,
+        r,
+        x,
+        label(turn, third),
+    )
 }
 
 fn passes(found: Inspected) -> bool {
@@ -165,7 +200,16 @@ fn grow_once(
     shape: u16,
     turn: u16,
 ) -> Run {
-    let grown = grow(fields, numbers, levels, ancestors, scratch, run, shape, turn);
+    let grown = grow(
+        fields,
+        numbers,
+        levels,
+        ancestors,
+        scratch,
+        run,
+        shape,
+        turn,
+    );
     inspected(fields, numbers, levels, ancestors, scratch, grown, turn)
 }
 

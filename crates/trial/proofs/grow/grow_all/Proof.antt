@@ -8,7 +8,9 @@ use Rattle.trial.proofs.grow.grow_all.Statement.{statement}
 use Rattle.trial.proofs.grow.grow_all.Tie as tie
 
 abbrev Inv-loop : tie.InvT-loop
-Inv-loop fields₀ numbers₀ levels₀ ancestors₀ scratch₀ shape r₀ turn₀ fields numbers levels ancestors scratch r turn = (length fields ≡ length fields₀) × (length numbers ≡ length numbers₀) × (length levels ≡ length levels₀) × (length ancestors ≡ length ancestors₀) × (length scratch ≡ length scratch₀)
+Inv-loop fields₀ numbers₀ levels₀ ancestors₀ scratch₀ shape r₀ turn₀ fields numbers levels ancestors scratch r turn =
+    (length fields ≡ length fields₀) × (length numbers ≡ length numbers₀) × (length levels ≡ length levels₀)
+    × (length ancestors ≡ length ancestors₀) × (length scratch ≡ length scratch₀)
 
 abbrev μ-loop : tie.MeasureT-loop
 μ-loop fields₀ numbers₀ levels₀ ancestors₀ scratch₀ shape r₀ turn₀ fields numbers levels ancestors scratch r turn = 200 - turn
