@@ -31,8 +31,8 @@ fn keep_made(
     ensures { λ r. ⌜ reply r (now (tree .exit)) ≡ madeBytes (now (tree .entry)) made (partsOf (now (fields .entry)) (now (numbers .entry)) (now (levels .entry)) (now (ancestors .entry))) ⌝ }
 {
     match made {
-        Made::Empty(s) => {
-            write_tree(tree, s, fields, numbers, levels, ancestors);
+        Made::Empty(empty) => {
+            write_tree(tree, empty, fields, numbers, levels, ancestors);
             0
         }
         Made::Refused(r) => number_of(r),
