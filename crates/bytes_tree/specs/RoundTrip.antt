@@ -1,8 +1,8 @@
 -- A tree that is kept as bytes is read back, and bytes that are read are written back: on trees whose numbers fit, and on bytes, both are each other's inverse.
 use mathlib.Core.Path.{_≡_, refl, ap, sym, _∙_}
-use mathlib.Core.List.{List, [], _∷_, _++_, append-assoc, map}
+use mathlib.Core.List.{List, [], _∷_, _++_, append-assoc, append-nil, map}
 use Prim.Native.Nat.{ℕ, zero, suc, _+_, _*_, _^_, _≤_, _<_}
-use native.Mathlib.Nat.{pow-suc}
+use native.Mathlib.Nat.{pow-suc, lt-of-lt-of-le, pow-le-pow-right}
 use native.Mathlib.Omega.{arith}
 use lib.IntN.{ℤ, pos}
 use lib.ListN.{length, take, drop, getD, length-append, length-map, length-take, length-drop, List·getD-map, take-append-drop}
@@ -64,6 +64,14 @@ module _ (pre post : List ℕ) (place n : ℕ) (p : length pre ≡ place) where
 
 -- Bytes that are read and written again
 
+value-small : (l : List ℕ) → Under 256 l → value l < 256 ^ length l
+value-small [] u = omega arith
+value-small (x ∷ l) u =
+    let h : x < 256 = u 0 (omega arith) in
+    let k : value l < 256 ^ length l = value-small l (λ i m. u (suc i) (omega arith)) in
+    let p : 256 ^ suc (length l) ≡ 256 ^ length l * 256 = pow-suc 256 (length l) in
+    omega arith
+
 module _ (b : List ℕ) (u : Under 256 b) where
   part-under : (w place : ℕ) → Under 256 (take w (drop place b))
   part-under w place i h =
@@ -92,3 +100,79 @@ module _ (b : List ℕ) (u : Under 256 b) where
   column-written w place n h =
       let z : place + 0 * w ≡ place = omega arith in
       column-from w place 0 n (omega arith) ∙ rw z
+
+  level-small : (place : ℕ) → valueAt 4 b place < 4294967296
+  level-small place =
+      let k : length (take 4 (drop place b)) ≤ 4 = omega (arith, length-take 4 (drop place b)) in
+      lt-of-lt-of-le (value-small (take 4 (drop place b)) (part-under 4 place)) (pow-le-pow-right (omega arith) k)
+
+  levels-from : (place k n : ℕ) → map unsigned (tabulateFrom (λ i. signed (valueAt 4 b (place + i * 4))) k n) ≡ tabulateFrom (λ i. valueAt 4 b (place + i * 4)) k n
+  levels-from place k zero = refl
+  levels-from place k (suc n) = rw (unsigned-signed (valueAt 4 b (place + k * 4)) (level-small (place + k * 4)), levels-from place (suc k) n)
+
+  pub levels-written : (place n : ℕ) → map unsigned (levelsAt n b place) ≡ numbersAt 4 n b place
+  unfolding levelsAt numbersAt tabulate
+  levels-written place n = levels-from place 0 n
+
+-- Trees
+
+-- the numbers of a tree fit the bytes that they are kept in
+pub record InBytes (s : State) (t : Parts) : Type 0 where
+  pub count : s .count < 65536
+  pub root : s .root < 65536
+  pub fields : Under 65536 (t .fields)
+  pub numbers : Under 18446744073709551616 (t .numbers)
+  pub levels : (i : ℕ) → i < length (t .levels) → SFits w32 (getD (t .levels) i (pos 0))
+  pub ancestors : Under 65536 (t .ancestors)
+
+state-eq : {a b : ℕ} (s : State) → a ≡ s .count → b ≡ s .root → _≡_ {A = State} (record { count = a; root = b }) s
+state-eq s p q = rw (p, q)
+
+parts-eq : {f m a : List ℕ} {l : List ℤ} (t : Parts) → f ≡ t .fields → m ≡ t .numbers → l ≡ t .levels → a ≡ t .ancestors → partsOf f m l a ≡ t
+parts-eq t p q r h = rw (p, q, r, h)
+
+-- a tree whose numbers fit is read back
+module _ (s : State) (t : Parts) (f : Fits treeRows t) (g : InBytes s t) where
+  pub state-back : stateIn (encoded s t) ≡ s
+  unfolding stateIn encoded
+  state-back = state-eq s (value-bytes 2 (s .count) (g .count)) (value-bytes 2 (s .root) (g .root))
+
+  pub parts-back : partsIn (encoded s t) ≡ t
+  unfolding partsIn encoded
+  parts-back =
+      let c = bytes 2 (s .count) in
+      let r = bytes 2 (s .root) in
+      let x = columnOf 2 (t .fields) in
+      let n = columnOf 8 (t .numbers) in
+      let v = columnOf 4 (map unsigned (t .levels)) in
+      let a = columnOf 2 (t .ancestors) in
+      let lx : length x ≡ 2560 = length-column 2 (t .fields) ∙ ap (λ (k : ℕ). k * 2) (f .fields) in
+      let ln : length n ≡ 2048 = length-column 8 (t .numbers) ∙ ap (λ (k : ℕ). k * 8) (f .numbers) in
+      let lv : length v ≡ 512 = length-column 4 (map unsigned (t .levels)) ∙ ap (λ (k : ℕ). k * 4) (length-map (t .levels) unsigned ∙ f .levels) in
+      let e : x ++ (n ++ (v ++ a)) ≡ (x ++ (n ++ v)) ++ (a ++ []) = simp (append-assoc, append-nil) in
+      parts-eq t
+      (column-read (c ++ r) (n ++ (v ++ a)) fieldsPlace 1280 refl 2 (t .fields) (f .fields) (g .fields))
+      (column-read (c ++ (r ++ x)) (v ++ a) numbersPlace 256 (omega arith) 8 (t .numbers) (f .numbers) (g .numbers))
+      (ap (λ (l : List ℕ). levelsAt 128 (c ++ (r ++ l)) levelsPlace) (sym (append-assoc x n (v ++ a)))
+      ∙ levels-read (c ++ (r ++ (x ++ n))) a levelsPlace 128 (simp length-append (omega arith)) (t .levels) (f .levels) (g .levels))
+      (ap (λ (l : List ℕ). numbersAt 2 15616 (c ++ (r ++ l)) ancestorsPlace) e
+      ∙ column-read (c ++ (r ++ (x ++ (n ++ v)))) [] ancestorsPlace 15616 (simp length-append (omega arith)) 2 (t .ancestors) (f .ancestors) (g .ancestors))
+
+-- what stands at a place and what follows it
+follow : (b : List ℕ) (p n : ℕ) {a r : List ℕ} → a ≡ take n (drop p b) → r ≡ drop (p + n) b → a ++ r ≡ drop p b
+follow b p n {a} {r} x y =
+    ap (λ (l : List ℕ). l ++ r) x ∙ ap (λ (l : List ℕ). take n (drop p b) ++ l) (y ∙ sym (drop-drop n p b)) ∙ take-append-drop n (drop p b)
+
+-- every run of bytes of that length is the tree that it holds
+pub bytes-back : (b : List ℕ) → length b ≡ treeBytes → Under 256 b → encoded (stateIn b) (partsIn b) ≡ b
+unfolding encoded stateIn partsIn
+bytes-back b e u =
+    let entries : columnOf 2 (numbersAt 2 15616 b ancestorsPlace) ≡ drop ancestorsPlace b =
+    column-written b u 2 ancestorsPlace 15616 (omega arith) ∙ take-all 31232 (drop ancestorsPlace b) (rw length-drop (omega arith)) in
+    let levels : columnOf 4 (map unsigned (levelsAt 128 b levelsPlace)) ≡ take 512 (drop levelsPlace b) =
+    ap (columnOf 4) (levels-written b u levelsPlace 128) ∙ column-written b u 4 levelsPlace 128 (omega arith) in
+    follow b 0 2 (bytes-at b u 2 0 (omega arith))
+    (follow b 2 2 (bytes-at b u 2 2 (omega arith))
+    (follow b fieldsPlace 2560 (column-written b u 2 fieldsPlace 1280 (omega arith))
+    (follow b numbersPlace 2048 (column-written b u 8 numbersPlace 256 (omega arith))
+    (follow b levelsPlace 512 levels entries))))
