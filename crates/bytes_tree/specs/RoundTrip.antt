@@ -6,7 +6,7 @@ use native.Mathlib.Nat.{pow-suc, lt-of-lt-of-le, pow-le-pow-right}
 use native.Mathlib.Omega.{arith}
 use lib.IntN.{ℤ, pos}
 use lib.ListN.{length, take, drop, getD, length-append, length-map, length-take, length-drop, List·getD-map, take-append-drop}
-use lib.Seq.{take-at, take-add, take-all, take-length, drop-drop, drop-append-add, getD-take, getD-drop, length-take-le}
+use lib.Seq.{take-at, take-add, take-all, drop-drop, drop-append-add, getD-take, getD-drop, length-take-le}
 use mir.Syntax.{w32}
 use mir.Val.{SFits}
 use Rattle.rows.specs.declared.state.State.{State}
