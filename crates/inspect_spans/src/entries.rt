@@ -9,12 +9,15 @@ use span::Span;
 use span::rank;
 ghost use mathlib.Core.Path.{_≡_};
 ghost use Rattle.laws.specs.Test.{pick};
+ghost use Prim.Native.Nat.{_+_, _≤_};
 ghost use lib.Dec.{eqb, leb};
 ghost use Rattle.tree_laws.specs.Ancestor.{none};
 ghost use Rattle.rows.specs.Row.{entryAt};
 ghost use Rattle.inspect_laws.specs.Entries.{areEntries, isRow};
 ghost use Rattle.inspect_tree.specs.Columns.{entryTable, reaches, uppers};
 ghost use Rattle.inspect_spans.specs.Thresholds.{Threshold, isEntryBy, isRowBy};
+ghost use Rattle.inspect_spans.specs.Owned.{ownedBy, areOwned, within};
+ghost use lib.ListN.{length};
 
 // The first index whose power a row of this set size lies below.
 fn threshold(set_size: u16) -> usize
@@ -55,8 +58,8 @@ fn is_entry(ancestors: &[u16], u: u16, x: u16, t: usize, i: u16) -> bool
     e == above
 }
 
-// All entries of row x.
-fn is_row(ancestors: &[u16], u: u16, x: u16, t: usize) -> bool
+// All entries of row x, one by one.
+fn is_row_by_entries(ancestors: &[u16], u: u16, x: u16, t: usize) -> bool
     ensures { λ r. ⌜ r ≡ isRowBy (now (ancestors .entry)) u x t ⌝ }
 {
     let mut i: u16 = 0;
@@ -67,6 +70,55 @@ fn is_row(ancestors: &[u16], u: u16, x: u16, t: usize) -> bool
         i += 1;
     }
     true
+}
+
+// The entry above, or else x.
+fn owned(above: u16, x: u16) -> u16
+    ensures { λ r. ⌜ r ≡ ownedBy x above ⌝ }
+{
+    if above == NONE { x } else { above }
+}
+
+// The n entries from a on are those from b on, or else x. All are compared, with no branch, so that many are compared at a time.
+fn are_owned(ancestors: &[u16], a: usize, b: usize, n: usize, x: u16) -> bool
+    requires { ⌜ (a + n ≤ length (now ancestors)) × (b + n ≤ length (now ancestors)) ⌝ }
+    ensures { λ r. ⌜ r ≡ areOwned (now (ancestors .entry)) a b x n ⌝ }
+{
+    let mut held = true;
+    let mut i: usize = 0;
+    while i < n {
+        held = (ancestors[a + i] == owned(ancestors[b + i], x)) & held;
+        i += 1;
+    }
+    held
+}
+
+// t, or the number of entries.
+fn at_most_entries(t: usize) -> usize
+    ensures { λ r. ⌜ r ≡ within t ⌝ }
+{
+    if t <= ENTRIES { t } else { ENTRIES }
+}
+
+// All entries of row x: those above it, and from index t on x where there are none.
+fn is_row(ancestors: &[u16], u: u16, x: u16, t: usize) -> bool
+    ensures { λ r. ⌜ r ≡ isRowBy (now (ancestors .entry)) u x t ⌝ }
+{
+    let a = (x as usize) * ENTRIES;
+    let b = (u as usize) * ENTRIES;
+    if u == NONE {
+        return is_row_by_entries(ancestors, u, x, t);
+    }
+    if ancestors.len() < a + ENTRIES {
+        return is_row_by_entries(ancestors, u, x, t);
+    }
+    if ancestors.len() < b + ENTRIES {
+        return is_row_by_entries(ancestors, u, x, t);
+    }
+    let k = at_most_entries(t);
+    let before = are_owned(ancestors, a, b, k, NONE);
+    let after = are_owned(ancestors, a + k, b + k, ENTRIES - k, x);
+    after & before
 }
 
 fn is_entered(fields: &[u16], ancestors: &[u16], x: u16) -> bool

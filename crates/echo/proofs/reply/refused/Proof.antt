@@ -1,0 +1,23 @@
+-- `refused`: one value.
+use Rattle.echo.specs.PrintedLaws.{one-printed}
+use mathlib.Core.Path.{ap}
+use Rattle.echo.specs.Printed.{printedOf}
+use borrow.Author.Needs.{needs}
+use Rattle.echo.proofs.reply.refused.Statement.{statement}
+use Rattle.echo.proofs.reply.refused.Tie as tie
+use Rattle.echo.proofs.reply.refused.Reads as reads
+use Rattle.echo.proofs.reply.refused.Lts as lts
+use Rattle.echo.proofs.reply.first_of.Reads as first-of-reads
+use Rattle.echo.proofs.reply.value.Reads as value-reads
+
+value-requires : tie.Need-value-requires
+value-requires c κs = search needs
+
+first-of-requires : tie.Need-first-of-requires
+first-of-requires c κs = search needs
+
+returns : tie.Need-returns
+returns c = one-printed _ (c .first-of .ensures) (record { same = c .before .value .ensures; fits = record { sfits = c .before .value .ok } })
+
+pub refused-spec : {M : Type 1} → statement M
+refused-spec = tie.close (tie.spec value-requires first-of-requires returns)

@@ -1,0 +1,21 @@
+-- `serve_alike` is the report of alike.
+use Rattle.echo.specs.ReportLaws.{alike-report}
+use borrow.Author.Needs.{needs}
+use Rattle.echo.proofs.serve.serve_alike.Statement.{statement}
+use Rattle.echo.proofs.serve.serve_alike.Tie as tie
+use Rattle.echo.proofs.serve.serve_alike.Reads as reads
+use Rattle.echo.proofs.serve.serve_alike.Lts as lts
+use Rattle.alike.proofs.same_labels.Reads as same-labels-reads
+use Rattle.echo.proofs.reply.compared.Reads as compared-reads
+
+same-labels-requires : tie.Need-same-labels-requires
+same-labels-requires c κs = search needs
+
+compared-requires : tie.Need-compared-requires
+compared-requires c κs = search needs
+
+returns : tie.Need-returns
+returns c = let a = c .before .before .before .before .before .args in alike-report _ (a .state) (a .x) (a .y) (c .compared .result) _ (c .before .same-labels .ensures) (c .compared .ensures)
+
+pub serve-alike-spec : {M : Type 1} → statement M
+serve-alike-spec = tie.close (tie.spec same-labels-requires compared-requires returns)
