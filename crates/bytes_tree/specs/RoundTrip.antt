@@ -7,25 +7,19 @@ use native.Mathlib.Omega.{arith}
 use lib.IntN.{ℤ, pos}
 use lib.ListN.{length, take, drop, getD, length-append, length-map, length-take, length-drop, List·getD-map, take-append-drop}
 use lib.Seq.{take-at, take-add, take-all, drop-drop, drop-append-add, getD-take, getD-drop, length-take-le}
-use mir.Syntax.{w32}
-use mir.Val.{SFits}
 use Rattle.rows.specs.declared.state.State.{State}
 use Rattle.rows.specs.Row.{Parts, partsOf}
 use Rattle.rows.specs.Capacity.{Fits}
 use Rattle.set_up.specs.Tabulate.{tabulate, tabulateFrom, tabulated}
 use Rattle.bytes_tree.specs.Bytes.{value, bytes, valueAt}
 use Rattle.bytes_tree.specs.BytesLaws.{length-bytes, value-bytes, bytes-value}
-use Rattle.bytes_tree.specs.Sign.{signed, unsigned}
+use Rattle.bytes_tree.specs.Sign.{signed, unsigned, Levels32}
 use Rattle.bytes_tree.specs.SignLaws.{signed-unsigned, unsigned-signed, unsigned-small}
 use Rattle.bytes_tree.specs.Column.{numbersAt, levelsAt, columnOf}
 use Rattle.bytes_tree.specs.ColumnLaws.{length-column}
-use Rattle.bytes_tree.specs.Tree.{treeRows, treeBytes, fieldsPlace, numbersPlace, levelsPlace, ancestorsPlace, stateIn, partsIn, encoded}
+use Rattle.bytes_tree.specs.Tree.{treeRows, treeBytes, fieldsPlace, numbersPlace, levelsPlace, ancestorsPlace, stateIn, partsIn, encoded, Under, InBytes}
 
 -- Columns, over any width
-
--- the numbers of a list are below a limit
-abbrev pub Under : ℕ → List ℕ → Type 0
-Under limit l = (i : ℕ) → i < length l → getD l i 0 < limit
 
 -- number i of a column with anything behind it
 part-at : (w : ℕ) (xs post : List ℕ) (i : ℕ) → i < length xs → take w (drop (i * w) (columnOf w xs ++ post)) ≡ bytes w (getD xs i 0)
@@ -51,7 +45,7 @@ module _ (pre post : List ℕ) (place n : ℕ) (p : length pre ≡ place) where
   unfolding numbersAt
   column-read w xs q u = rw (← p, ← q) (sym (tabulated (λ i. valueAt w (pre ++ (columnOf w xs ++ post)) (length pre + i * w)) 0 xs (λ i h. sym (value-at w pre xs post i h (u i h)))))
 
-  pub levels-read : (xs : List ℤ) → length xs ≡ n → ((i : ℕ) → i < length xs → SFits w32 (getD xs i (pos 0)))
+  pub levels-read : (xs : List ℤ) → length xs ≡ n → Levels32 xs
       → levelsAt n (pre ++ (columnOf 4 (map unsigned xs) ++ post)) place ≡ xs
   unfolding levelsAt
   levels-read xs q u = rw (← p, ← q) (sym (tabulated (λ i. signed (valueAt 4 (pre ++ (columnOf 4 (map unsigned xs) ++ post)) (length pre + i * 4))) (pos 0) xs (λ i h. sym (go i h))))
@@ -115,15 +109,6 @@ module _ (b : List ℕ) (u : Under 256 b) where
   levels-written place n = levels-from place 0 n
 
 -- Trees
-
--- the numbers of a tree fit the bytes that they are kept in
-pub record InBytes (s : State) (t : Parts) : Type 0 where
-  pub count : s .count < 65536
-  pub root : s .root < 65536
-  pub fields : Under 65536 (t .fields)
-  pub numbers : Under 18446744073709551616 (t .numbers)
-  pub levels : (i : ℕ) → i < length (t .levels) → SFits w32 (getD (t .levels) i (pos 0))
-  pub ancestors : Under 65536 (t .ancestors)
 
 state-eq : {a b : ℕ} (s : State) → a ≡ s .count → b ≡ s .root → _≡_ {A = State} (record { count = a; root = b }) s
 state-eq s p q = rw (p, q)
