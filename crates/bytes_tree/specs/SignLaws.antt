@@ -95,3 +95,8 @@ unsigned-signed x h = elim (decLt x 2147483648) [
   | yes l ↦ ap unsigned (signed-low x l)
   | no l ↦ ap unsigned (signed-high x (omega arith)) ∙ omega arith
 ]
+
+pub unsigned-small : (z : ℤ) → SFits w32 z → unsigned z < 4294967296
+unfolding unsigned
+unsigned-small (pos n) f = let h : n < 2147483648 = f .sfits in omega arith
+unsigned-small (negsuc n) f = omega arith

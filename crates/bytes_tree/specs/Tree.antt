@@ -1,10 +1,11 @@
 -- A tree of capacity 128 as one run of bytes (01: "trees of capacity 128 kept as one run of bytes"), its numbers in the places of docs/FORMAT.md.
 use mathlib.Core.List.{List, _++_, map}
-use Prim.Native.Nat.{ℕ}
+use Prim.Native.Nat.{ℕ, _<_}
+use lib.ListN.{length, getD}
 use Rattle.rows.specs.declared.state.State.{State}
 use Rattle.rows.specs.Row.{Parts, partsOf}
 use Rattle.bytes_tree.specs.Bytes.{bytes, valueAt}
-use Rattle.bytes_tree.specs.Sign.{unsigned}
+use Rattle.bytes_tree.specs.Sign.{unsigned, Levels32}
 use Rattle.bytes_tree.specs.Column.{numbersAt, levelsAt, columnOf}
 
 -- how many rows, and how many bytes
@@ -40,3 +41,16 @@ unfoldable pub encoded : State → Parts → List ℕ
 encoded s t =
     bytes 2 (s .count) ++ (bytes 2 (s .root)
     ++ (columnOf 2 (t .fields) ++ (columnOf 8 (t .numbers) ++ (columnOf 4 (map unsigned (t .levels)) ++ columnOf 2 (t .ancestors)))))
+
+-- the numbers of a list are below a limit
+abbrev pub Under : ℕ → List ℕ → Type 0
+Under limit l = (i : ℕ) → i < length l → getD l i 0 < limit
+
+-- the numbers of a tree fit the bytes that they are kept in
+pub record InBytes (s : State) (t : Parts) : Type 0 where
+  pub count : s .count < 65536
+  pub root : s .root < 65536
+  pub fields : Under 65536 (t .fields)
+  pub numbers : Under 18446744073709551616 (t .numbers)
+  pub levels : Levels32 (t .levels)
+  pub ancestors : Under 65536 (t .ancestors)

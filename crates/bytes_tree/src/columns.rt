@@ -12,7 +12,7 @@ ghost use mathlib.Core.List.{map};
 ghost use Prim.Native.Nat.{_+_, _*_, _≤_};
 ghost use lib.ListN.{length};
 ghost use lib.Seq.{sets};
-ghost use Rattle.bytes_tree.specs.Sign.{unsigned};
+ghost use Rattle.bytes_tree.specs.Sign.{unsigned, Levels32};
 ghost use Rattle.bytes_tree.specs.Column.{numbersAt, levelsAt, columnOf};
 
 pub fn read16(b: &[u8], place: usize, part: &mut [u16])
@@ -72,7 +72,8 @@ pub fn write64(b: &mut [u8], place: usize, part: &[u64])
 
 pub fn write_levels(b: &mut [u8], place: usize, part: &[i32])
     requires { ⌜ place + length (now part) * 4 ≤ length (now b) ⌝ }
-    ensures { λ _. ⌜ now (b .exit) ≡ sets (now (b .entry)) place (columnOf 4 (map unsigned (now (part .entry)))) ⌝ }
+    ensures bytes { λ _. ⌜ now (b .exit) ≡ sets (now (b .entry)) place (columnOf 4 (map unsigned (now (part .entry)))) ⌝ }
+    ensures range { λ _. ⌜ Levels32 (now (part .entry)) ⌝ }
 {
     let mut i: usize = 0;
     while i < part.len() {

@@ -12,7 +12,7 @@ ghost use mathlib.Core.Path.{_≡_};
 ghost use lib.ListN.{length};
 ghost use Rattle.rows.specs.Row.{partsOf};
 ghost use Rattle.rows.specs.Capacity.{Fits};
-ghost use Rattle.bytes_tree.specs.Tree.{treeRows, treeBytes, stateIn, partsIn, encoded};
+ghost use Rattle.bytes_tree.specs.Tree.{treeRows, treeBytes, stateIn, partsIn, encoded, InBytes};
 
 // The bytes of a tree, and the places of its columns.
 pub const BYTES: usize = 36356;
@@ -66,7 +66,8 @@ pub fn write_tree(
 )
     requires { ⌜ length (now b) ≡ treeBytes ⌝ }
     requires { ⌜ Fits treeRows (partsOf (now fields) (now numbers) (now levels) (now ancestors)) ⌝ }
-    ensures { λ _. ⌜ now (b .exit) ≡ encoded state (partsOf (now (fields .entry)) (now (numbers .entry)) (now (levels .entry)) (now (ancestors .entry))) ⌝ }
+    ensures bytes { λ _. ⌜ now (b .exit) ≡ encoded state (partsOf (now (fields .entry)) (now (numbers .entry)) (now (levels .entry)) (now (ancestors .entry))) ⌝ }
+    ensures range { λ _. ⌜ InBytes state (partsOf (now (fields .entry)) (now (numbers .entry)) (now (levels .entry)) (now (ancestors .entry))) ⌝ }
 {
     put16(b, COUNT, state.count);
     put16(b, ROOT, state.root);

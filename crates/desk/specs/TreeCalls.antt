@@ -1,7 +1,9 @@
 -- Byte trees of capacity 128 for a C host: each call is that of the table form on what the bytes hold, with a scratch that fits.
 -- Misfits of the tree's bytes and of the out slice are looked for first.
+use mathlib.Core.Path.{_≡_}
 use mathlib.Core.List.{List}
 use Prim.Native.Nat.{ℕ}
+use Rattle.rows.specs.declared.state.State.{State}
 use Rattle.rows.specs.Refusal.{numberOf}
 use Rattle.rows.specs.Row.{Parts}
 use Rattle.set_up.specs.declared.Made.{Made}
@@ -24,10 +26,19 @@ pub record Outcome : Type 0 where
 abbrev pub outcome : List ℕ → Reply ℕ → Outcome
 outcome b r = record { replied = r; tree = b }
 
+-- bytes hold a tree of this count and root, and these parts
+abbrev pub Held : List ℕ → State → Parts → Type 0
+Held b s t = (stateIn b ≡ s) × (partsIn b ≡ t)
+
 -- set-up has no values: its reply's out slice is the tree
 abbrev pub madeBytes : List ℕ → Made → Parts → Reply ℕ
 madeBytes b (Empty s) t = reply 0 (encoded s t)
 madeBytes b (NotMade r) t = reply (numberOf r) b
+
+-- what bytes hold after a set-up, and after a growth, that was served: the count and root that it answered, and the parts that it left
+abbrev pub MadeHeld : List ℕ → Made → Parts → Type 0
+MadeHeld b (Empty s) t = Held b s t
+MadeHeld b (NotMade r) t = Unit {0}
 
 unfoldable pub setUpTree : List ℕ → Reply ℕ
 setUpTree b = onLength treeBytes b (madeBytes b (setUp (partsIn b)) (partsAfter (partsIn b))) (misfit b)
@@ -36,6 +47,13 @@ setUpTree b = onLength treeBytes b (madeBytes b (setUp (partsIn b)) (partsAfter 
 abbrev pub treeAfter : List ℕ → Parts → Grown → List ℕ
 treeAfter b t (Node g) = encoded (g .state) t
 treeAfter b t (NotGrown r) = b
+
+abbrev pub GrownHeld : List ℕ → Parts → Grown → Type 0
+GrownHeld b t (Node g) = Held b (g .state) t
+GrownHeld b t (NotGrown r) = Unit {0}
+
+abbrev pub GrowthHeld : List ℕ → GrowthOutcome → Type 0
+GrowthHeld b g = GrownHeld b (g .parts) (g .grown)
 
 abbrev pub afterGrowth : List ℕ → List ℕ → GrowthOutcome → Outcome
 afterGrowth b out g = outcome (treeAfter b (g .parts) (g .grown)) (grownBytes out (g .grown))

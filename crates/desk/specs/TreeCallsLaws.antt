@@ -1,11 +1,13 @@
 -- The calls on byte trees, by whether the slices have their lengths, from what the call of the engine and the reply left.
-use mathlib.Core.Path.{_≡_, ap, _∙_}
+use mathlib.Core.Path.{_≡_, ap, subst, _∙_}
 use mathlib.Core.Logic.{_≢_}
 use mathlib.Core.List.{List}
 use Prim.Native.Nat.{ℕ}
+use native.Mathlib.Omega.{arith}
 use lib.ListN.{length}
 use Rattle.rows.specs.declared.state.State.{State}
 use Rattle.rows.specs.Row.{Parts}
+use Rattle.rows.specs.Capacity.{Fits}
 use Rattle.set_up.specs.declared.Made.{Made}
 use Rattle.set_up.specs.Blank.{setUp, partsAfter}
 use Rattle.growth.specs.declared.Grown.{Grown}
@@ -13,12 +15,13 @@ use Rattle.growth.specs.Growth.{Outcome as GrowthOutcome, addLeaf, addRoot}
 use Rattle.growth.specs.Growth as growth
 use Rattle.query.specs.Outcome.{Outcome as QuestionOutcome}
 use Rattle.query.specs.Question.{question}
-use Rattle.bytes_tree.specs.Tree.{treeRows, treeBytes, stateIn, partsIn}
+use Rattle.bytes_tree.specs.Tree.{treeRows, treeBytes, stateIn, partsIn, encoded, InBytes}
+use Rattle.bytes_tree.specs.RoundTrip.{state-back, parts-back}
 use Rattle.replies.specs.Reply.{reply, misfit}
 use Rattle.replies.specs.ByteReply.{grownBytes, questionBytes}
 use Rattle.desk.specs.TableCalls.{onLength}
 use Rattle.desk.specs.TableCallsLaws.{on-length, off-length}
-use Rattle.desk.specs.TreeCalls.{Outcome, outcome, madeBytes, setUpTree, treeAfter, afterGrowth, onLengths, leafTree, rootTree, questionTree}
+use Rattle.desk.specs.TreeCalls.{outcome, Held, madeBytes, MadeHeld, setUpTree, treeAfter, GrownHeld, GrowthHeld, afterGrowth, onLengths, leafTree, rootTree, questionTree}
 
 module _ {B : Type 0} (b : List ℕ) {A : Type 0} (out : List A) (n : ℕ) (served other : B) where
   -- the tree, then the out slice, has another length
@@ -32,6 +35,14 @@ module _ {B : Type 0} (b : List ℕ) {A : Type 0} (out : List A) (n : ℕ) (serv
   pub both-fit : length b ≡ treeBytes → length out ≡ n → served ≡ onLength treeBytes b (onLength n out served other) other
   both-fit e f = on-length n out served other f ∙ on-length treeBytes b (onLength n out served other) other e
 
+-- what was written is held
+pub written-held : (b : List ℕ) (s : State) (t : Parts) → Fits treeRows t → b ≡ encoded s t → InBytes s t → Held b s t
+written-held b s t f e g = (ap stateIn e ∙ state-back s t f g, ap partsIn e ∙ parts-back s t f g)
+
+-- a misfit is not 0
+pub misfit-held : {A : Type 0} {r : ℕ} → r ≡ 3 → r ≡ 0 → A
+misfit-held h z = absurd (omega arith)
+
 -- Set-up
 
 module _ (b : List ℕ) {r : ℕ} where
@@ -44,7 +55,25 @@ module _ (b : List ℕ) {r : ℕ} where
   unfolding setUpTree
   set-up-kept after u t m e i j k h = rw (h, k, j, i) (on-length treeBytes b (madeBytes b (setUp (partsIn b)) (partsAfter (partsIn b))) (misfit b) e)
 
+pub set-up-held : (b after : List ℕ) (u t : Parts) (m : Made) → u ≡ partsIn b → m ≡ setUp u → t ≡ partsAfter u
+    → MadeHeld after m t → MadeHeld after (setUp (partsIn b)) (partsAfter (partsIn b))
+set-up-held b after u t m i j k h =
+    let x : m ≡ setUp (partsIn b) = j ∙ ap setUp i in
+    let y : t ≡ partsAfter (partsIn b) = k ∙ ap partsAfter i in
+    rw (x, y) at h
+
 -- Growth
+
+module _ (b after : List ℕ) (u t : Parts) (s : State) (g : Grown) (i : u ≡ partsIn b) (j : s ≡ stateIn b) (h : GrownHeld after t g) where
+  pub leaf-held : (parent label : ℕ) → growth.outcome t g ≡ addLeaf u treeRows s parent label → GrowthHeld after (addLeaf (partsIn b) treeRows (stateIn b) parent label)
+  leaf-held parent label q =
+      let z : growth.outcome t g ≡ addLeaf (partsIn b) treeRows (stateIn b) parent label = q ∙ rw (i, j) in
+      subst (λ (o : GrowthOutcome). GrowthHeld after o) z h
+
+  pub root-held : growth.outcome t g ≡ addRoot u treeRows s → GrowthHeld after (addRoot (partsIn b) treeRows (stateIn b))
+  root-held q =
+      let z : growth.outcome t g ≡ addRoot (partsIn b) treeRows (stateIn b) = q ∙ rw (i, j) in
+      subst (λ (o : GrowthOutcome). GrowthHeld after o) z h
 
 module _ (b out : List ℕ) {r : ℕ} where
   grown-tree-misfit : (o : GrowthOutcome) → r ≡ 3 → length b ≢ treeBytes → outcome b (reply r out) ≡ onLengths b out o

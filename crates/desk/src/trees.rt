@@ -13,9 +13,11 @@ ghost use mathlib.Core.Path.{_≡_};
 ghost use lib.ListN.{length};
 ghost use Rattle.rows.specs.Row.{partsOf};
 ghost use Rattle.rows.specs.Capacity.{Fits};
-ghost use Rattle.bytes_tree.specs.Tree.{treeRows, treeBytes};
+ghost use Rattle.bytes_tree.specs.Tree.{treeRows, treeBytes, stateIn, partsIn};
+ghost use Rattle.set_up.specs.Blank.{setUp, partsAfter};
+ghost use Rattle.growth.specs.Growth.{addLeaf, addRoot};
 ghost use Rattle.replies.specs.Reply.{reply};
-ghost use Rattle.desk.specs.TreeCalls.{outcome, madeBytes, setUpTree, treeAfter, leafTree, rootTree, questionTree};
+ghost use Rattle.desk.specs.TreeCalls.{outcome, madeBytes, MadeHeld, setUpTree, treeAfter, GrownHeld, GrowthHeld, leafTree, rootTree, questionTree};
 
 // The tree that set-up made, or 01's refusal number.
 fn keep_made(
@@ -28,11 +30,12 @@ fn keep_made(
 ) -> u16
     requires { ⌜ length (now tree) ≡ treeBytes ⌝ }
     requires { ⌜ Fits treeRows (partsOf (now fields) (now numbers) (now levels) (now ancestors)) ⌝ }
-    ensures { λ r. ⌜ reply r (now (tree .exit)) ≡ madeBytes (now (tree .entry)) made (partsOf (now (fields .entry)) (now (numbers .entry)) (now (levels .entry)) (now (ancestors .entry))) ⌝ }
+    ensures answer { λ r. ⌜ reply r (now (tree .exit)) ≡ madeBytes (now (tree .entry)) made (partsOf (now (fields .entry)) (now (numbers .entry)) (now (levels .entry)) (now (ancestors .entry))) ⌝ }
+    ensures held { λ _. ⌜ MadeHeld (now (tree .exit)) made (partsOf (now (fields .entry)) (now (numbers .entry)) (now (levels .entry)) (now (ancestors .entry))) ⌝ }
 {
     match made {
-        Made::Empty(s) => {
-            write_tree(tree, s, fields, numbers, levels, ancestors);
+        Made::Empty(empty) => {
+            write_tree(tree, empty, fields, numbers, levels, ancestors);
             0
         }
         Made::Refused(r) => number_of(r),
@@ -50,7 +53,8 @@ fn keep_grown(
 )
     requires { ⌜ length (now tree) ≡ treeBytes ⌝ }
     requires { ⌜ Fits treeRows (partsOf (now fields) (now numbers) (now levels) (now ancestors)) ⌝ }
-    ensures { λ _. ⌜ now (tree .exit) ≡ treeAfter (now (tree .entry)) (partsOf (now (fields .entry)) (now (numbers .entry)) (now (levels .entry)) (now (ancestors .entry))) grown ⌝ }
+    ensures tree { λ _. ⌜ now (tree .exit) ≡ treeAfter (now (tree .entry)) (partsOf (now (fields .entry)) (now (numbers .entry)) (now (levels .entry)) (now (ancestors .entry))) grown ⌝ }
+    ensures held { λ _. ⌜ GrownHeld (now (tree .exit)) (partsOf (now (fields .entry)) (now (numbers .entry)) (now (levels .entry)) (now (ancestors .entry))) grown ⌝ }
 {
     match grown {
         Grown::Node(g) => {
@@ -64,7 +68,8 @@ fn keep_grown(
 // An empty tree.
 #[no_mangle]
 pub extern "C" fn nca_set_up(tree: &mut [u8]) -> u16
-    ensures { λ r. ⌜ reply r (now (tree .exit)) ≡ setUpTree (now (tree .entry)) ⌝ }
+    ensures answer { λ r. ⌜ reply r (now (tree .exit)) ≡ setUpTree (now (tree .entry)) ⌝ }
+    ensures held { λ r. ⌜ (r ≡ 0 → MadeHeld (now (tree .exit)) (setUp (partsIn (now (tree .entry)))) (partsAfter (partsIn (now (tree .entry))))) ⌝ }
 {
     if tree.len() != BYTES {
         return number_of(Refusal::Misfit);
@@ -81,7 +86,8 @@ pub extern "C" fn nca_set_up(tree: &mut [u8]) -> u16
 // A new leaf. Out: node, rows renumbered.
 #[no_mangle]
 pub extern "C" fn nca_add_leaf(tree: &mut [u8], parent: u16, label: u16, out: &mut [u8]) -> u16
-    ensures { λ r. ⌜ outcome (now (tree .exit)) (reply r (now (out .exit))) ≡ leafTree (now (tree .entry)) (now (out .entry)) parent label ⌝ }
+    ensures answer { λ r. ⌜ outcome (now (tree .exit)) (reply r (now (out .exit))) ≡ leafTree (now (tree .entry)) (now (out .entry)) parent label ⌝ }
+    ensures held { λ r. ⌜ (r ≡ 0 → GrowthHeld (now (tree .exit)) (addLeaf (partsIn (now (tree .entry))) treeRows (stateIn (now (tree .entry))) parent label)) ⌝ }
 {
     if tree.len() != BYTES {
         return number_of(Refusal::Misfit);
@@ -113,7 +119,8 @@ pub extern "C" fn nca_add_leaf(tree: &mut [u8], parent: u16, label: u16, out: &m
 // A new root. Out: node, rows renumbered.
 #[no_mangle]
 pub extern "C" fn nca_add_root(tree: &mut [u8], out: &mut [u8]) -> u16
-    ensures { λ r. ⌜ outcome (now (tree .exit)) (reply r (now (out .exit))) ≡ rootTree (now (tree .entry)) (now (out .entry)) ⌝ }
+    ensures answer { λ r. ⌜ outcome (now (tree .exit)) (reply r (now (out .exit))) ≡ rootTree (now (tree .entry)) (now (out .entry)) ⌝ }
+    ensures held { λ r. ⌜ (r ≡ 0 → GrowthHeld (now (tree .exit)) (addRoot (partsIn (now (tree .entry))) treeRows (stateIn (now (tree .entry))))) ⌝ }
 {
     if tree.len() != BYTES {
         return number_of(Refusal::Misfit);

@@ -1,4 +1,6 @@
 -- `keep_made`: the tree is written where it was made.
+use Rattle.rows.specs.Row.{partsOf}
+use Rattle.desk.specs.TreeCallsLaws.{written-held}
 use borrow.Author.Needs.{needs}
 use Rattle.desk.proofs.trees.keep_made.Statement.{statement}
 use Rattle.desk.proofs.trees.keep_made.Tie as tie
@@ -19,10 +21,13 @@ same-length : tie.Need-same-length
 same-length c = search needs
 
 returns : tie.Need-returns
-returns c = rw (c .before .before .before .before .before .made .given .1, c .before .before .write-tree .ensures)
+returns c = (
+  rw (c .before .before .before .before .before .made .given .1, c .before .before .write-tree .ensures .0),
+  rw (c .before .before .before .before .before .made .given .1) (written-held _ (c .before .before .before .before .before .made .given .0 .0) (partsOf (c .before .before .before .before .before .before .before .before .before .before .before .args .fields .now) (c .before .before .before .before .before .before .before .before .before .before .before .args .numbers .now) (c .before .before .before .before .before .before .before .before .before .before .before .args .levels .now) (c .before .before .before .before .before .before .before .before .before .before .before .args .ancestors .now)) (c .before .before .before .before .before .before .before .before .before .before .before .pre .1) (c .before .before .write-tree .ensures .0) (c .before .before .write-tree .ensures .1)),
+)
 
 returns-2 : tie.Need-returns-2
-returns-2 c = rw (c .before .before .made2 .given .1, c .number-of .ensures)
+returns-2 c = (rw (c .before .before .made2 .given .1, c .number-of .ensures), rw (c .before .before .made2 .given .1) tt)
 
 pub keep-made-spec : {M : Type 1} → statement M
 keep-made-spec =

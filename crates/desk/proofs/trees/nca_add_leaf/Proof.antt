@@ -1,5 +1,5 @@
 -- `nca_add_leaf`: the growth of what the bytes hold, then the bytes and the reply.
-use Rattle.desk.specs.TreeCallsLaws.{leaf-tree-misfit, leaf-out-misfit, leaf-kept}
+use Rattle.desk.specs.TreeCallsLaws.{leaf-tree-misfit, leaf-out-misfit, leaf-kept, leaf-held, misfit-held}
 use borrow.Author.Needs.{needs}
 use Rattle.desk.proofs.trees.nca_add_leaf.Statement.{statement}
 use Rattle.desk.proofs.trees.nca_add_leaf.Tie as tie
@@ -8,13 +8,13 @@ number-of-requires : tie.Need-number-of-requires
 number-of-requires c κs = search needs
 
 returns : tie.Need-returns
-returns c = leaf-tree-misfit (c .before .before .before .before .args .tree .now) (c .before .before .before .before .args .out .now) (c .before .before .before .before .args .parent) (c .before .before .before .before .args .label) (c .number-of .ensures) (c .before .if1 .taken)
+returns c = (leaf-tree-misfit (c .before .before .before .before .args .tree .now) (c .before .before .before .before .args .out .now) (c .before .before .before .before .args .parent) (c .before .before .before .before .args .label) (c .number-of .ensures) (c .before .if1 .taken), λ z. misfit-held (c .number-of .ensures) z)
 
 number-of-requires-2 : tie.Need-number-of-requires-2
 number-of-requires-2 c κs = search needs
 
 returns-2 : tie.Need-returns-2
-returns-2 c = leaf-out-misfit (c .before .before .before .before .before .args .tree .now) (c .before .before .before .before .before .args .out .now) (c .before .before .before .before .before .args .parent) (c .before .before .before .before .before .args .label) (c .number-of2 .ensures) (c .before .before .if1 .left) (c .before .if2 .taken)
+returns-2 c = (leaf-out-misfit (c .before .before .before .before .before .args .tree .now) (c .before .before .before .before .before .args .out .now) (c .before .before .before .before .before .args .parent) (c .before .before .before .before .before .args .label) (c .number-of2 .ensures) (c .before .before .if1 .left) (c .before .if2 .taken), λ z. misfit-held (c .number-of2 .ensures) z)
 
 slice-aggregate-read-parts : tie.Need-slice-aggregate-read-parts
 slice-aggregate-read-parts c = search needs
@@ -78,8 +78,10 @@ same-length-2 c = search needs
 
 returns-3 : tie.Need-returns-3
 returns-3 c =
-    let a = c .before .before .before .before .before .before .before .before .before .before .before .before .before .before .before .before .before .before .before .before .before .before .before .before .before .before .before .before .before .before .before .before .before .before .before .before .before .before .args in
-    leaf-kept (a .tree .now) (a .out .now) _ _ _ _ _ _ (c .before .before .before .before .before .before .before .before .before .before .before .before .before .before .before .before .before .before .before .before .before .before .before .before .before .before .before .before .before .before .before .before .before .before .before .if1 .left) (c .before .before .before .before .before .before .before .before .before .before .before .before .before .before .before .before .before .before .before .before .before .before .before .before .before .before .before .before .before .before .before .before .before .before .if2 .left) (c .before .before .before .before .before .before .before .before .before .before .before .before .before .before .before .before .before .before .before .before .before .before .before .before .before .before .before .before .read-parts .ensures) (c .before .before .before .before .before .before .before .before .before .before .before .before .before .before .before .before .before .before .before .before .before .before .read-state .ensures) (c .before .before .before .before .before .before .keep-grown .ensures) (c .before .before .reply-grown .ensures) (a .parent) (a .label) (c .before .before .before .before .before .before .before .before .before .before .before .before .before .before .before .before .add-leaf .ensures)
+    let a = c .before .before .before .before .before .before .before .before .before .before .before .before .before .before .before .before .before .before .before .before .before .before .before .before .before .before .before .before .before .before .before .before .before .before .before .before .before .before .args in (
+      leaf-kept (a .tree .now) (a .out .now) _ _ _ _ _ _ (c .before .before .before .before .before .before .before .before .before .before .before .before .before .before .before .before .before .before .before .before .before .before .before .before .before .before .before .before .before .before .before .before .before .before .before .if1 .left) (c .before .before .before .before .before .before .before .before .before .before .before .before .before .before .before .before .before .before .before .before .before .before .before .before .before .before .before .before .before .before .before .before .before .before .if2 .left) (c .before .before .before .before .before .before .before .before .before .before .before .before .before .before .before .before .before .before .before .before .before .before .before .before .before .before .before .before .read-parts .ensures) (c .before .before .before .before .before .before .before .before .before .before .before .before .before .before .before .before .before .before .before .before .before .before .read-state .ensures) (c .before .before .before .before .before .before .keep-grown .ensures .0) (c .before .before .reply-grown .ensures) (a .parent) (a .label) (c .before .before .before .before .before .before .before .before .before .before .before .before .before .before .before .before .add-leaf .ensures),
+      λ _. leaf-held (a .tree .now) _ _ _ _ _ (c .before .before .before .before .before .before .before .before .before .before .before .before .before .before .before .before .before .before .before .before .before .before .before .before .before .before .before .before .read-parts .ensures) (c .before .before .before .before .before .before .before .before .before .before .before .before .before .before .before .before .before .before .before .before .before .before .read-state .ensures) (c .before .before .before .before .before .before .keep-grown .ensures .1) (a .parent) (a .label) (c .before .before .before .before .before .before .before .before .before .before .before .before .before .before .before .before .add-leaf .ensures),
+    )
 
 pub nca-add-leaf-spec : {M : Type 1} → statement M
 nca-add-leaf-spec =

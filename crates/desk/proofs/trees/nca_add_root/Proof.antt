@@ -1,5 +1,5 @@
 -- `nca_add_root`: the growth of what the bytes hold, then the bytes and the reply.
-use Rattle.desk.specs.TreeCallsLaws.{root-tree-misfit, root-out-misfit, root-kept}
+use Rattle.desk.specs.TreeCallsLaws.{root-tree-misfit, root-out-misfit, root-kept, root-held, misfit-held}
 use borrow.Author.Needs.{needs}
 use Rattle.desk.proofs.trees.nca_add_root.Statement.{statement}
 use Rattle.desk.proofs.trees.nca_add_root.Tie as tie
@@ -8,13 +8,13 @@ number-of-requires : tie.Need-number-of-requires
 number-of-requires c κs = search needs
 
 returns : tie.Need-returns
-returns c = root-tree-misfit (c .before .before .before .before .args .tree .now) (c .before .before .before .before .args .out .now) (c .number-of .ensures) (c .before .if1 .taken)
+returns c = (root-tree-misfit (c .before .before .before .before .args .tree .now) (c .before .before .before .before .args .out .now) (c .number-of .ensures) (c .before .if1 .taken), λ z. misfit-held (c .number-of .ensures) z)
 
 number-of-requires-2 : tie.Need-number-of-requires-2
 number-of-requires-2 c κs = search needs
 
 returns-2 : tie.Need-returns-2
-returns-2 c = root-out-misfit (c .before .before .before .before .before .args .tree .now) (c .before .before .before .before .before .args .out .now) (c .number-of2 .ensures) (c .before .before .if1 .left) (c .before .if2 .taken)
+returns-2 c = (root-out-misfit (c .before .before .before .before .before .args .tree .now) (c .before .before .before .before .before .args .out .now) (c .number-of2 .ensures) (c .before .before .if1 .left) (c .before .if2 .taken), λ z. misfit-held (c .number-of2 .ensures) z)
 
 slice-aggregate-read-parts : tie.Need-slice-aggregate-read-parts
 slice-aggregate-read-parts c = search needs
@@ -78,8 +78,10 @@ same-length-2 c = search needs
 
 returns-3 : tie.Need-returns-3
 returns-3 c =
-    let a = c .before .before .before .before .before .before .before .before .before .before .before .before .before .before .before .before .before .before .before .before .before .before .before .before .before .before .before .before .before .before .before .before .before .before .before .before .before .before .args in
-    root-kept (a .tree .now) (a .out .now) _ _ _ _ _ _ (c .before .before .before .before .before .before .before .before .before .before .before .before .before .before .before .before .before .before .before .before .before .before .before .before .before .before .before .before .before .before .before .before .before .before .before .if1 .left) (c .before .before .before .before .before .before .before .before .before .before .before .before .before .before .before .before .before .before .before .before .before .before .before .before .before .before .before .before .before .before .before .before .before .before .if2 .left) (c .before .before .before .before .before .before .before .before .before .before .before .before .before .before .before .before .before .before .before .before .before .before .before .before .before .before .before .before .read-parts .ensures) (c .before .before .before .before .before .before .before .before .before .before .before .before .before .before .before .before .before .before .before .before .before .before .read-state .ensures) (c .before .before .before .before .before .before .keep-grown .ensures) (c .before .before .reply-grown .ensures) (c .before .before .before .before .before .before .before .before .before .before .before .before .before .before .before .before .add-root .ensures)
+    let a = c .before .before .before .before .before .before .before .before .before .before .before .before .before .before .before .before .before .before .before .before .before .before .before .before .before .before .before .before .before .before .before .before .before .before .before .before .before .before .args in (
+      root-kept (a .tree .now) (a .out .now) _ _ _ _ _ _ (c .before .before .before .before .before .before .before .before .before .before .before .before .before .before .before .before .before .before .before .before .before .before .before .before .before .before .before .before .before .before .before .before .before .before .before .if1 .left) (c .before .before .before .before .before .before .before .before .before .before .before .before .before .before .before .before .before .before .before .before .before .before .before .before .before .before .before .before .before .before .before .before .before .before .if2 .left) (c .before .before .before .before .before .before .before .before .before .before .before .before .before .before .before .before .before .before .before .before .before .before .before .before .before .before .before .before .read-parts .ensures) (c .before .before .before .before .before .before .before .before .before .before .before .before .before .before .before .before .before .before .before .before .before .before .read-state .ensures) (c .before .before .before .before .before .before .keep-grown .ensures .0) (c .before .before .reply-grown .ensures) (c .before .before .before .before .before .before .before .before .before .before .before .before .before .before .before .before .add-root .ensures),
+      λ _. root-held (a .tree .now) _ _ _ _ _ (c .before .before .before .before .before .before .before .before .before .before .before .before .before .before .before .before .before .before .before .before .before .before .before .before .before .before .before .before .read-parts .ensures) (c .before .before .before .before .before .before .before .before .before .before .before .before .before .before .before .before .before .before .before .before .before .before .read-state .ensures) (c .before .before .before .before .before .before .keep-grown .ensures .1) (c .before .before .before .before .before .before .before .before .before .before .before .before .before .before .before .before .add-root .ensures),
+    )
 
 pub nca-add-root-spec : {M : Type 1} → statement M
 nca-add-root-spec =

@@ -1,5 +1,5 @@
 -- `nca_set_up`: set-up of what the bytes hold, then the bytes.
-use Rattle.desk.specs.TreeCallsLaws.{set-up-misfit, set-up-kept}
+use Rattle.desk.specs.TreeCallsLaws.{set-up-misfit, set-up-kept, set-up-held, misfit-held}
 use borrow.Author.Needs.{needs}
 use Rattle.desk.proofs.trees.nca_set_up.Statement.{statement}
 use Rattle.desk.proofs.trees.nca_set_up.Tie as tie
@@ -8,7 +8,7 @@ number-of-requires : tie.Need-number-of-requires
 number-of-requires c κs = search needs
 
 returns : tie.Need-returns
-returns c = set-up-misfit (c .before .before .before .args .tree .now) (c .number-of .ensures) (c .before .if1 .taken)
+returns c = (set-up-misfit (c .before .before .before .args .tree .now) (c .number-of .ensures) (c .before .if1 .taken), λ z. misfit-held (c .number-of .ensures) z)
 
 slice-aggregate-read-parts : tie.Need-slice-aggregate-read-parts
 slice-aggregate-read-parts c = search needs
@@ -59,7 +59,7 @@ same-length : tie.Need-same-length
 same-length c = search needs
 
 returns-2 : tie.Need-returns-2
-returns-2 c = set-up-kept (c .before .before .before .before .before .before .before .before .before .before .before .before .before .before .before .before .before .before .before .before .before .before .before .before .before .before .before .before .before .args .tree .now) _ _ _ _ (c .before .before .before .before .before .before .before .before .before .before .before .before .before .before .before .before .before .before .before .before .before .before .before .before .before .before .before .if1 .left) (c .before .before .before .before .before .before .before .before .before .before .before .before .before .before .before .before .before .before .before .before .before .read-parts .ensures) (c .before .before .before .before .before .before .before .before .before .before .before .before .set-up .ensures .0) (c .before .before .before .before .before .before .before .before .before .before .before .before .set-up .ensures .1) (c .before .before .keep-made .ensures)
+returns-2 c = (set-up-kept (c .before .before .before .before .before .before .before .before .before .before .before .before .before .before .before .before .before .before .before .before .before .before .before .before .before .before .before .before .before .args .tree .now) _ _ _ _ (c .before .before .before .before .before .before .before .before .before .before .before .before .before .before .before .before .before .before .before .before .before .before .before .before .before .before .before .if1 .left) (c .before .before .before .before .before .before .before .before .before .before .before .before .before .before .before .before .before .before .before .before .before .read-parts .ensures) (c .before .before .before .before .before .before .before .before .before .before .before .before .set-up .ensures .0) (c .before .before .before .before .before .before .before .before .before .before .before .before .set-up .ensures .1) (c .before .before .keep-made .ensures .0), λ _. set-up-held (c .before .before .before .before .before .before .before .before .before .before .before .before .before .before .before .before .before .before .before .before .before .before .before .before .before .before .before .before .before .args .tree .now) _ _ _ _ (c .before .before .before .before .before .before .before .before .before .before .before .before .before .before .before .before .before .before .before .before .before .read-parts .ensures) (c .before .before .before .before .before .before .before .before .before .before .before .before .set-up .ensures .0) (c .before .before .before .before .before .before .before .before .before .before .before .before .set-up .ensures .1) (c .before .before .keep-made .ensures .1))
 
 pub nca-set-up-spec : {M : Type 1} → statement M
 nca-set-up-spec =
