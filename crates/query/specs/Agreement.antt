@@ -1,5 +1,5 @@
 -- Two tables that agree in the rows of a step give that step the same outcome.
-use mathlib.Core.Path.{_≡_, refl, ap, _∙_}
+use mathlib.Core.Path.{_≡_, ap, _∙_}
 use mathlib.Core.Bool.{Bool, true, false, _||_, _&&_, not}
 use Prim.Native.Nat.{ℕ, _<_}
 use lib.Dec.{eqb, ltb, leb}

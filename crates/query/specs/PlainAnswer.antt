@@ -8,7 +8,7 @@ use lib.Dec.{eqb}
 use Rattle.laws.specs.Test.{pick}
 use Rattle.rows.specs.Table.{Table, parent}
 use Rattle.query.specs.declared.stored.Fork.{Fork}
-use Rattle.query.specs.Reading.{IsRow, isRow}
+use Rattle.query.specs.Reading.{isRow}
 use Rattle.query.specs.Line.{isLineLevel}
 use Rattle.query.specs.StoredAnswer.{forked, lost, storedAnswer}
 

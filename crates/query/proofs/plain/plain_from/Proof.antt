@@ -17,7 +17,10 @@ is-above-requires c κs = c .before .before .before .before .before .pre .1 .1 (
 
 returns-2 : tie.Need-returns-2
 unfolding plainFrom
-returns-2 c = let f = c .before .before .before .before .before .before .before .args .f in rw (not-false (f .sound) (c .before .before .if1 .left), sym (c .before .is-above .ensures) ∙ not-true _ (c .if2 .taken))
+returns-2 c =
+    let f = c .before .before .before .before .before .before .before .args .f in
+    let above = sym (c .before .is-above .ensures) ∙ not-true _ (c .if2 .taken) in
+    rw (not-false (f .sound) (c .before .before .if1 .left), above)
 
 are-rows-requires : tie.Need-are-rows-requires
 are-rows-requires c κs = search needs
@@ -27,7 +30,11 @@ lost-requires c κs = search needs
 
 returns-3 : tie.Need-returns-3
 unfolding plainFrom
-returns-3 c = let f = c .before .before .before .before .before .before .before .before .before .before .args .f in rw (c .lost .ensures, sym (c .before .before .are-rows .ensures) ∙ not-true _ (c .before .if3 .taken), sym (c .before .before .before .before .is-above .ensures) ∙ not-false _ (c .before .before .before .if2 .left), not-false (f .sound) (c .before .before .before .before .before .if1 .left))
+returns-3 c =
+    let f = c .before .before .before .before .before .before .before .before .before .before .args .f in
+    let above = sym (c .before .before .before .before .is-above .ensures) ∙ not-false _ (c .before .before .before .if2 .left) in
+    let rows = sym (c .before .before .are-rows .ensures) ∙ not-true _ (c .before .if3 .taken) in
+    rw (c .lost .ensures, rows, above, not-false (f .sound) (c .before .before .before .before .before .if1 .left))
 
 lowered-requires : tie.Need-lowered-requires
 lowered-requires c κs =

@@ -3,7 +3,6 @@ use mathlib.Core.Path.{refl, ap, sym, _∙_}
 use native.Mathlib.Omega.{arith}
 use borrow.Author.Tests.{not-true, not-false}
 use Rattle.query.specs.declared.compressed.Side.{Side}
-use Rattle.query.specs.CompressedStep.{compressedSide}
 use Rattle.query.specs.AnswerRows.{side-rows}
 use Rattle.query.specs.StoredAnswerLaws.{rank-listed, side-is, join-by}
 use borrow.Author.Needs.{needs}
@@ -27,8 +26,10 @@ lost-requires c κs = search needs
 
 returns : tie.Need-returns
 returns c =
-    let x = side-is _ _ _ _ (c .before .before .before .before .before .rank .ensures) (c .before .before .before .before .entry .ensures) (c .before .before .before .side-from .ensures) in
-    c .lost .ensures ∙ sym (join-by _ _ _ (sym (ap (λ (s : Side). s .sound) x) ∙ not-true _ (c .before .if1 .taken)) refl refl refl)
+    let rank = c .before .before .before .before .before .rank .ensures in
+    let x = side-is _ _ _ _ rank (c .before .before .before .before .entry .ensures) (c .before .before .before .side-from .ensures) in
+    let left = not-true _ (c .before .if1 .taken) in
+    c .lost .ensures ∙ sym (join-by _ _ _ (sym (ap (λ (s : Side). s .sound) x) ∙ left) refl refl refl)
 
 entry-requires-2 : tie.Need-entry-requires-2
 entry-requires-2 c κs = search needs
@@ -36,31 +37,49 @@ entry-requires-2 c κs = search needs
 side-from-requires-2 : tie.Need-side-from-requires-2
 side-from-requires-2 c κs =
     let h = c .before .before .before .before .before .before .before .before .before .pre in
-    let x = side-is _ _ _ _ (c .before .before .before .before .before .rank .ensures) (c .before .before .before .before .entry .ensures) (c .before .before .before .side-from .ensures) in
-    (h .0, (rw x (side-rows _ _ _ _ _ (h .1 .left) (sym (ap (λ (s : Side). s .sound) x) ∙ not-false _ (c .before .if1 .left)) .row), h .1 .right))
+    let rank = c .before .before .before .before .before .rank .ensures in
+    let x = side-is _ _ _ _ rank (c .before .before .before .before .entry .ensures) (c .before .before .before .side-from .ensures) in
+    let left = not-false _ (c .before .if1 .left) in
+    (h .0, (rw x (side-rows _ _ _ _ _ (h .1 .left) (sym (ap (λ (s : Side). s .sound) x) ∙ left) .row), h .1 .right))
 
 lost-requires-2 : tie.Need-lost-requires-2
 lost-requires-2 c κs = search needs
 
 returns-2 : tie.Need-returns-2
 returns-2 c =
-    let x = side-is _ _ _ _ (c .before .before .before .before .before .before .before .before .before .rank .ensures) (c .before .before .before .before .before .before .before .before .entry .ensures) (c .before .before .before .before .before .before .before .side-from .ensures) in
-    let y = side-is _ _ _ _ (c .before .before .before .before .before .before .before .before .before .rank .ensures) (c .before .before .before .before .entry2 .ensures) (c .before .before .before .side-from2 .ensures) in
-    c .lost2 .ensures ∙ sym (join-by _ _ _ (sym (ap (λ (s : Side). s .sound) x) ∙ not-false _ (c .before .before .before .before .before .if1 .left)) (sym (ap (λ (s : Side). s .sound) y) ∙ not-true _ (c .before .if2 .taken)) refl refl)
+    let rank = c .before .before .before .before .before .before .before .before .before .rank .ensures in
+    let x = side-is _ _ _ _ rank (c .before .before .before .before .before .before .before .before .entry .ensures) (c .before .before .before .before .before .before .before .side-from .ensures) in
+    let y = side-is _ _ _ _ rank (c .before .before .before .before .entry2 .ensures) (c .before .before .before .side-from2 .ensures) in
+    let left = not-false _ (c .before .before .before .before .before .if1 .left) in
+    let right = not-true _ (c .before .if2 .taken) in
+    c .lost2 .ensures ∙ sym (join-by _ _ _ (sym (ap (λ (s : Side). s .sound) x) ∙ left) (sym (ap (λ (s : Side). s .sound) y) ∙ right) refl refl)
 
 join-requires : tie.Need-join-requires
 join-requires c κs =
     let h = c .before .before .before .before .before .before .before .before .before .before .before .before .pre in
-    let x = side-is _ _ _ _ (c .before .before .before .before .before .before .before .before .rank .ensures) (c .before .before .before .before .before .before .before .entry .ensures) (c .before .before .before .before .before .before .side-from .ensures) in
-    let y = side-is _ _ _ _ (c .before .before .before .before .before .before .before .before .rank .ensures) (c .before .before .before .entry2 .ensures) (c .before .before .side-from2 .ensures) in
-    let sx = not-false _ (c .before .before .before .before .if1 .left) in
-    let sy = not-false _ (c .if2 .left) in
-    (h .0, (sx, (sy, (rw x (side-rows _ _ _ _ _ (h .1 .left) (sym (ap (λ (s : Side). s .sound) x) ∙ sx)), rw y (side-rows _ _ _ _ _ (h .1 .right) (sym (ap (λ (s : Side). s .sound) y) ∙ sy))))))
+    let rank = c .before .before .before .before .before .before .before .before .rank .ensures in
+    let x = side-is _ _ _ _ rank (c .before .before .before .before .before .before .before .entry .ensures) (c .before .before .before .before .before .before .side-from .ensures) in
+    let y = side-is _ _ _ _ rank (c .before .before .before .entry2 .ensures) (c .before .before .side-from2 .ensures) in
+    let left = not-false _ (c .before .before .before .before .if1 .left) in
+    let right = not-false _ (c .if2 .left) in (
+      h .0,
+      (
+        left,
+        (
+          right,
+          (
+            rw x (side-rows _ _ _ _ _ (h .1 .left) (sym (ap (λ (s : Side). s .sound) x) ∙ left)),
+            rw y (side-rows _ _ _ _ _ (h .1 .right) (sym (ap (λ (s : Side). s .sound) y) ∙ right)),
+          ),
+        ),
+      ),
+    )
 
 returns-3 : tie.Need-returns-3
 returns-3 c =
-    let x = side-is _ _ _ _ (c .before .before .before .before .before .before .before .before .before .rank .ensures) (c .before .before .before .before .before .before .before .before .entry .ensures) (c .before .before .before .before .before .before .before .side-from .ensures) in
-    let y = side-is _ _ _ _ (c .before .before .before .before .before .before .before .before .before .rank .ensures) (c .before .before .before .before .entry2 .ensures) (c .before .before .before .side-from2 .ensures) in
+    let rank = c .before .before .before .before .before .before .before .before .before .rank .ensures in
+    let x = side-is _ _ _ _ rank (c .before .before .before .before .before .before .before .before .entry .ensures) (c .before .before .before .before .before .before .before .side-from .ensures) in
+    let y = side-is _ _ _ _ rank (c .before .before .before .before .entry2 .ensures) (c .before .before .before .side-from2 .ensures) in
     rw (c .join .ensures, x, y)
 
 pub sides-joined-spec : {M : Type 1} → statement M
