@@ -35,7 +35,7 @@ abbrev pub madeBytes : List ℕ → Made → Parts → Reply ℕ
 madeBytes b (Empty s) t = reply 0 (encoded s t)
 madeBytes b (NotMade r) t = reply (numberOf r) b
 
--- what bytes hold after a set-up, and after a growth, that was served: the count and root that it answered, and the parts that it left
+-- what bytes hold after a set-up that was served: its count and root, and the parts that it left
 abbrev pub MadeHeld : List ℕ → Made → Parts → Type 0
 MadeHeld b (Empty s) t = Held b s t
 MadeHeld b (NotMade r) t = Unit {0}
@@ -48,6 +48,7 @@ abbrev pub treeAfter : List ℕ → Parts → Grown → List ℕ
 treeAfter b t (Node g) = encoded (g .state) t
 treeAfter b t (NotGrown r) = b
 
+-- and what they hold after a growth that was served
 abbrev pub GrownHeld : List ℕ → Parts → Grown → Type 0
 GrownHeld b t (Node g) = Held b (g .state) t
 GrownHeld b t (NotGrown r) = Unit {0}
@@ -55,6 +56,7 @@ GrownHeld b t (NotGrown r) = Unit {0}
 abbrev pub GrowthHeld : List ℕ → GrowthOutcome → Type 0
 GrowthHeld b g = GrownHeld b (g .parts) (g .grown)
 
+-- a growth's reply and tree
 abbrev pub afterGrowth : List ℕ → List ℕ → GrowthOutcome → Outcome
 afterGrowth b out g = outcome (treeAfter b (g .parts) (g .grown)) (grownBytes out (g .grown))
 
