@@ -176,19 +176,23 @@ private:
         row.start = u == NONE ? 0 : rows[u].next_free;
         row.next_free = p(x);
         if (u != NONE) rows[u].next_free = end(x);
-        fill(x, u, 3 * fourth(s));
+        fill(x, u, own_from(s));
         given++;
     }
 
-    // The entries of the upper row, and x itself from the first index whose power lies above its reach, where there is none.
-    void fill(uint16_t x, uint16_t u, uint64_t reach) {
+    // The first index whose power lies above the reach of this set size.
+    int own_from(uint64_t set_size) const {
+        return std::min(ENTRIES, int(std::upper_bound(powers.begin(), powers.end(), 3 * fourth(set_size)) - powers.begin()));
+    }
+
+    // The entries of the upper row, and x itself from an index on, where there is none.
+    void fill(uint16_t x, uint16_t u, int from) {
         auto &to = entries[x];
         if (u == NONE)
             to.fill(NONE);
         else
             to = entries[u];
-        for (size_t i = size_t(std::upper_bound(powers.begin(), powers.end(), reach) - powers.begin()); i < ENTRIES; i++)
-            to[i] = to[i] == NONE ? x : to[i];
+        for (int i = from; i < ENTRIES; i++) to[i] = to[i] == NONE ? x : to[i];
     }
 
     bool tree_holds(uint32_t n) {
@@ -251,14 +255,18 @@ private:
         return rows[0].start == 0;
     }
 
+    // With no branch in the loops, so that many entries are compared at a time.
     bool entries_hold(uint32_t n) const {
+        std::array<uint16_t, ENTRIES> none;
+        none.fill(NONE);
         for (uint32_t v = 0; v < n; v++) {
-            uint64_t reach = 3 * fourth(rows[v].set_size);
-            uint16_t u = rows[v].upper;
-            for (int i = 0; i < ENTRIES; i++) {
-                uint16_t e = u == NONE ? NONE : entries[u][i];
-                if (entries[v][i] != (e == NONE && reach < powers[i] ? v : e)) return false;
-            }
+            const auto &row = entries[v];
+            const auto &above = rows[v].upper == NONE ? none : entries[rows[v].upper];
+            int from = own_from(rows[v].set_size);
+            uint16_t x = uint16_t(v), odd = 0;
+            for (int i = 0; i < from; i++) odd |= row[i] ^ above[i];
+            for (int i = from; i < ENTRIES; i++) odd |= row[i] ^ (above[i] == NONE ? x : above[i]);
+            if (odd != 0) return false;
         }
         return true;
     }

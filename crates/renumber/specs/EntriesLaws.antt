@@ -8,6 +8,7 @@ use native.Mathlib.Decide.{decLe, decLt}
 use native.Mathlib.Omega.{arith}
 use lib.Dec.{leb, ltb, eqb, leb→le}
 use lib.ListN.{length, getD, set, take, drop, replicate, length-take, length-drop, length-replicate}
+use lib.Seq.{take-suc, take-suc-set, take-all}
 use borrow.Author.Tests.{le-leb, lt-leb, lt-ltb, le-ltb, eq-eqb, ne-eqb, eqb-true}
 use Rattle.laws.specs.Test.{pick}
 use Rattle.tree_laws.specs.Ancestor.{none}
@@ -23,11 +24,19 @@ use Rattle.renumber.specs.Entries.{entriesFrom, aboveOf, withEntries, ow
 
 -- one turn of the loop -----------------------------------------------------------
 
-pub own-on : (x i : ℕ) (l : List ℕ) → i < length l → ownedFrom x i l ≡ ownedFrom x (suc i) (set l i (pick (eqb (getD l i 0) none) x (getD l i 0)))
+pub owned-take : (x i : ℕ) (l : List ℕ) → take i (ownedFrom x i l) ≡ take i l
 unfolding ownedFrom
-own-on x i [] h = absurd (omega arith)
-own-on x zero (e ∷ es) h = refl
-own-on x (suc i) (e ∷ es) h = ap (λ (r : List ℕ). e ∷ r) (own-on x i es (omega arith))
+owned-take x zero l = refl
+owned-take x (suc i) [] = refl
+owned-take x (suc i) (e ∷ es) = ap (λ (r : List ℕ). e ∷ r) (owned-take x i es)
+
+pub owned-at : (x from i : ℕ) (l : List ℕ) → from ≤ i → i < length l → getD (ownedFrom x from l) i 0 ≡ pick (eqb (getD l i 0) none) x (getD l i 0)
+unfolding ownedFrom
+owned-at x from i [] k h = absurd (omega arith)
+owned-at x zero zero (e ∷ es) k h = refl
+owned-at x zero (suc i) (e ∷ es) k h = owned-at x zero i es (omega arith) (omega arith)
+owned-at x (suc from) zero (e ∷ es) k h = absurd (omega arith)
+owned-at x (suc from) (suc i) (e ∷ es) k h = owned-at x from i es (omega arith) (omega arith)
 
 pub own-end : (x i : ℕ) (l : List ℕ) → length l ≤ i → ownedFrom x i l ≡ l
 unfolding ownedFrom
@@ -40,6 +49,20 @@ unfolding ownedFrom
 length-owned x i [] = refl
 length-owned x zero (e ∷ es) = ap suc (length-owned x zero es)
 length-owned x (suc i) (e ∷ es) = ap suc (length-owned x i es)
+
+pub own-more : (x from i v : ℕ) (row above : List ℕ) → length row ≡ length above → from ≤ i → i < length above → take i row ≡ take i (ownedFrom x from above)
+    → v ≡ pick (eqb (getD above i 0) none) x (getD above i 0) → take (suc i) (set row i v) ≡ take (suc i) (ownedFrom x from above)
+own-more x from i v row above s k h e q =
+    take-suc-set row i v (omega arith) ∙ ap (λ (r : List ℕ). r ++ (v ∷ [])) e
+    ∙ ap (λ (w : ℕ). take i (ownedFrom x from above) ++ (w ∷ [])) (q ∙ sym (owned-at x from i above k h))
+    ∙ sym (take-suc (ownedFrom x from above) i 0 (omega (arith, length-owned x from above)))
+
+pub own-all : (x from i : ℕ) (row above : List ℕ) → length row ≡ length above → length row ≤ i → take i row ≡ take i (ownedFrom x from above) → row ≡ ownedFrom x from above
+own-all x from i row above s h e = sym (take-all i row h) ∙ e ∙ take-all i (ownedFrom x from above) (omega (arith, length-owned x from above))
+
+-- past the last index nothing changes
+pub own-none : (x from : ℕ) (row above : List ℕ) → length row ≡ length above → length above ≤ from → take (length above) row ≡ take (length above) above → row ≡ ownedFrom x from above
+own-none x from row above s h e = sym (take-all (length above) row (omega arith)) ∙ e ∙ take-all (length above) above (omega arith) ∙ sym (own-end x from above h)
 
 -- the index from which a row stands for itself -----------------------------------
 
@@ -123,6 +146,12 @@ above-none a u h = rw (lt-ltb (length a) (u * entryStride + entryStride) h)
 pub above-row : (a : List ℕ) (u : ℕ) → u * entryStride + entryStride ≤ length a → aboveOf a u ≡ take entryStride (drop (u * entryStride) a)
 unfolding aboveOf
 above-row a u h = rw (le-ltb (length a) (u * entryStride + entryStride) h)
+
+pub above-copied : (a : List ℕ) (u : ℕ) (r : List ℕ) → u * entryStride + entryStride ≤ length a → length r ≡ entryStride
+    → take entryStride r ≡ take entryStride (take entryStride (drop (u * entryStride) a)) → r ≡ aboveOf a u
+above-copied a u r h s e =
+    sym (take-all entryStride r (omega arith)) ∙ e ∙ take-all entryStride (take entryStride (drop (u * entryStride) a)) (simp (length-take, length-drop) (omega arith))
+    ∙ sym (above-row a u h)
 
 pub length-above : (a : List ℕ) (u : ℕ) → length (aboveOf a u) ≡ entryStride
 length-above a u = elim (decLe (u * entryStride + entryStride) (length a)) [

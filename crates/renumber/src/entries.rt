@@ -4,7 +4,7 @@ use rows::layout::NONE;
 use span::Span;
 ghost use mathlib.Core.Path.{_≡_};
 ghost use Prim.Native.Nat.{_≤_};
-ghost use lib.ListN.{length};
+ghost use lib.ListN.{length, take};
 ghost use lib.Dec.{eqb};
 ghost use Rattle.laws.specs.Test.{pick};
 ghost use Rattle.tree_laws.specs.Ancestor.{none};
@@ -21,13 +21,13 @@ fn own_from(set_size: u16) -> usize
     span::rank(reach) + 1
 }
 
-// All of `from` into `to`, which is as long.
-fn copy(to: &mut [u16], from: &[u16])
-    requires { ⌜ length (now to) ≡ length (now from) ⌝ }
-    ensures { λ _. ⌜ now (to .exit) ≡ now (from .entry) ⌝ }
+// The first n of `from` into `to`.
+fn copy(to: &mut [u16], from: &[u16], n: usize)
+    requires { ⌜ (length (now to) ≡ length (now from)) × (n ≤ length (now from)) ⌝ }
+    ensures { λ _. ⌜ take n (now (to .exit)) ≡ take n (now (from .entry)) ⌝ }
 {
     let mut i: usize = 0;
-    while i < to.len() {
+    while i < n {
         to[i] = from[i];
         i += 1;
     }
@@ -43,24 +43,29 @@ fn owned(e: u16, x: u16) -> u16
     e
 }
 
-// x in place of none, from an index on.
-fn own(row: &mut [u16], x: u16, from: usize)
-    ensures { λ _. ⌜ now (row .exit) ≡ ownedFrom x from (now (row .entry)) ⌝ }
+// The rest of `above` into `row`, with x in place of none.
+fn own(row: &mut [u16], above: &[u16], x: u16, from: usize)
+    requires { ⌜ (length (now row) ≡ length (now above)) × (take from (now row) ≡ take from (now above)) ⌝ }
+    ensures { λ _. ⌜ now (row .exit) ≡ ownedFrom x from (now (above .entry)) ⌝ }
 {
     let mut i = from;
     while i < row.len() {
-        row[i] = owned(row[i], x);
+        row[i] = owned(above[i], x);
         i += 1;
     }
 }
 
-// The entries of row x, lent from the middle of the table, from those of its upper row.
+// The entries of row x, lent from the middle of the table, from those of its upper row. Each is stored once.
 fn fill(row: &mut [u16], above: &[u16], x: u16, from: usize)
     requires { ⌜ length (now row) ≡ length (now above) ⌝ }
     ensures { λ _. ⌜ now (row .exit) ≡ ownedFrom x from (now (above .entry)) ⌝ }
 {
-    copy(row, above);
-    own(row, x, from);
+    if above.len() < from {
+        copy(row, above, above.len());
+        return;
+    }
+    copy(row, above, from);
+    own(row, above, x, from);
 }
 
 // The entries of row u; all none where there is no such row.
@@ -73,7 +78,7 @@ fn above_of(ancestors: &[u16], u: u16) -> [u16; 122]
     if ancestors.len() < e {
         return above;
     }
-    copy(&mut above, &ancestors[a..e]);
+    copy(&mut above, &ancestors[a..e], ENTRIES);
     above
 }
 
