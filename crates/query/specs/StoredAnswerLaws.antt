@@ -16,20 +16,6 @@ use Rattle.query.specs.ReadingLaws.{says-row}
 use Rattle.query.specs.CompressedStep.{sideFrom, compressedSide}
 use Rattle.query.specs.StoredAnswer.{isOnRow, forked, meeting, branchOf, join, lost}
 
--- every rank is that of a listed power
-rank-to-le : (n d : ℕ) → rankTo n d ≤ n
-unfolding rankTo
-rank-to-le zero d = omega arith
-rank-to-le (suc n) d = go (leb (power (suc n)) d) (rank-to-le n d)
-  where
-    go : (b : Bool) {k : ℕ} → k ≤ n → pick b (suc n) k ≤ suc n
-    go true h = omega arith
-    go false h = omega arith
-
-pub rank-listed : (d : ℕ) → rankOf d < listed
-unfolding rankOf
-rank-listed d = omega (arith, rank-to-le (listed - 1) d)
-
 -- the row that a path row is read off
 pub on-row-parent : (t : Table) (s : Side) → isOnRow t s ≡ true → s .below ≢ s .row → IsRow t (parent t (s .below))
 unfolding isOnRow

@@ -31,10 +31,6 @@ withEntries a x u setSize =
 
 -- how the code finds them ------------------------------------------------------
 
--- the first index whose power lies above the reach
-unfoldable pub ownFrom : ℕ → ℕ
-ownFrom setSize = pick (eqb (capped (reachOf setSize)) 0) 0 (rankOf (capped (reachOf setSize)) + 1)
-
 -- x in place of none, from an index on
 unfoldable pub ownedFrom : ℕ → ℕ → List ℕ → List ℕ
 ownedFrom x i [] = []

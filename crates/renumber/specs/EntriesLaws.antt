@@ -19,8 +19,9 @@ use Rattle.span.specs.Power.{power, listed}
 use Rattle.span.specs.PowerLaws.{power-le, power-pos}
 use Rattle.span.specs.Rank.{rankOf, rankTo}
 use Rattle.span.specs.RankLaws.{rank-reach, rank-reached, limit-listed}
+use Rattle.span.specs.OwnFrom.{ownFrom, own-index}
 use Rattle.rows.specs.Layout.{entryStride}
-use Rattle.renumber.specs.Entries.{entriesFrom, aboveOf, withEntries, ownFrom, ownedFrom}
+use Rattle.renumber.specs.Entries.{entriesFrom, aboveOf, withEntries, ownedFrom}
 
 -- one turn of the loop -----------------------------------------------------------
 
@@ -65,51 +66,6 @@ pub own-none : (x from : ℕ) (row above : List ℕ) → length row ≡ length a
 own-none x from row above s h e = sym (take-all (length above) row (omega arith)) ∙ e ∙ take-all (length above) above (omega arith) ∙ sym (own-end x from above h)
 
 -- the index from which a row stands for itself -----------------------------------
-
-rank-to-le : (n d : ℕ) → rankTo n d ≤ n
-unfolding rankTo
-rank-to-le zero d = omega arith
-rank-to-le (suc n) d = go (leb (power (suc n)) d) (rank-to-le n d)
-  where
-    go : (b : Bool) → rankTo n d ≤ n → pick b (suc n) (rankTo n d) ≤ suc n
-    go true h = omega arith
-    go false h = omega arith
-
-pub rank-listed : (d : ℕ) → rankOf d < listed
-unfolding rankOf
-rank-listed d = omega (arith, rank-to-le (listed - 1) d)
-
-over-listed : over < power listed
-unfolding power
-over-listed = leb→le (suc over) (power listed) tt
-
-last-limit : power 121 ≤ limit
-unfolding power
-last-limit = leb→le (power 121) limit tt
-
-own-rank : (d i : ℕ) → 1 ≤ d → d < power listed → leb (rankOf d + 1) i ≡ ltb d (power i)
-own-rank d i a b = elim (decLt d (power i)) [
-  | yes l ↦ rw (lt-ltb d (power i) l, le-leb (rankOf d + 1) i (past l))
-  | no n ↦ let r : i ≤ rankOf d = rank-reach d i a b (omega arith) in rw (le-ltb d (power i) (omega arith), lt-leb (rankOf d + 1) i (omega arith))
-]
-  where
-    past : d < power i → rankOf d + 1 ≤ i
-    past l = elim (decLe (rankOf d + 1) i) [ yes k ↦ k | no k ↦ absurd (omega (arith, rank-reached d i a b (omega arith))) ]
-
--- a row stands for itself exactly where its reach lies below the power
-pub own-index : (setSize i : ℕ) → i < entryStride → leb (ownFrom setSize) i ≡ ltb (reachOf setSize) (power i)
-unfolding ownFrom
-own-index setSize i h = elim (decLe (reachOf setSize) limit) [
-  | yes l ↦ rw (capped-within (reachOf setSize) l) (within (reachOf setSize) l)
-  | no n ↦
-      let below : power i ≤ limit = omega (arith, power-le i 121 (omega arith), last-limit) in
-      rw (capped-past (reachOf setSize) (omega arith), le-ltb (reachOf setSize) (power i) (omega arith))
-      (own-rank over i (omega arith) over-listed ∙ le-ltb over (power i) (omega arith))
-]
-  where
-    within : (r : ℕ) → r ≤ limit → leb (pick (eqb r 0) 0 (rankOf r + 1)) i ≡ ltb r (power i)
-    within zero l = le-leb 0 i (omega arith) ∙ sym (lt-ltb 0 (power i) (power-pos i))
-    within (suc r) l = rw (ne-eqb (suc r) 0 (λ e. omega arith)) (own-rank (suc r) i (omega arith) (limit-listed l))
 
 none-kept : (e : ℕ) → pick (eqb e none) none e ≡ e
 none-kept e = go (eqb e none) refl
