@@ -14,6 +14,7 @@ use Rattle.rows.specs.Layout.{parentPlace, lastPlace, upperPlace, pathPlace, si
 use Rattle.rows.specs.Row.{Parts, fieldAt, numberAt, levelAt}
 use Rattle.rows.specs.Capacity.{capacityOf}
 use Rattle.rows.specs.State.{isStanding}
+use Rattle.rows.specs.StoredTree.{labelLimit}
 use Rattle.growth.specs.declared.attach.Leaf.{Leaf}
 use Rattle.renumber.specs.declared.Head.{Head}
 use Rattle.growth.specs.declared.plan.Plan.{Plan}
@@ -104,7 +105,7 @@ firstRoot =
 -- the two calls ------------------------------------------------------------------------
 
 abbrev pub isLabel : ℕ → Bool
-isLabel label = leb 1 label && leb label 9999
+isLabel label = leb 1 label && leb label labelLimit
 
 -- a leaf in parts that fit the capacity c
 unfoldable pub leafWithin : Parts → ℕ → ℕ → State → ℕ → ℕ → Planned

@@ -5,6 +5,7 @@ use crate::plan::Planned;
 use crate::plan::plan_row;
 use rows::capacity::Fit;
 use rows::capacity::capacity;
+use rows::layout::LARGEST_LABEL;
 use rows::refusal::Refusal;
 use rows::row::level;
 use rows::state::State;
@@ -18,7 +19,7 @@ ghost use Rattle.growth.specs.Plan.{isLabel, leafPlan};
 fn is_label(label: u16) -> bool
     ensures { λ r. ⌜ r ≡ isLabel label ⌝ }
 {
-    (1 <= label) & (label <= 9999)
+    (1 <= label) & (label <= LARGEST_LABEL)
 }
 
 // Why a leaf is refused, or its plan.

@@ -14,6 +14,7 @@ use Rattle.rows.specs.Refusal.{numberOf}
 use Rattle.rows.specs.Row.{Parts}
 use Rattle.rows.specs.Capacity.{Fits, capacityOf}
 use Rattle.rows.specs.CapacityLaws.{capacity-fits}
+use Rattle.rows.specs.StoredTree.{labelLimit}
 use Rattle.rows.specs.Table.{tableOf}
 use Rattle.rows.specs.Rules.{Rules}
 use Rattle.growth_laws.specs.Growth.{Growth}
@@ -54,8 +55,8 @@ module _ {c : ℕ} (p : Parts) (s : State) (fit : Fits c p) (r : Rules c (tableO
     ]
   ]
     where
-      labels : isLabel label ≡ true → (1 ≤ label) × (label ≤ 9999)
-      labels e = says-get (says-and (says-leb 1 label) (λ _. says-leb label 9999)) e
+      labels : isLabel label ≡ true → (1 ≤ label) × (label ≤ labelLimit)
+      labels e = says-get (says-and (says-leb 1 label) (λ _. says-leb label labelLimit)) e
 
       labelled : scratch ≡ c → v < s .count → (b : Bool) → isLabel label ≡ b → grownBy p (leafPlan p scratch s v label) .grown ≢ Refused Corrupt
       labelled a l false e = refused-not p (leafPlan p scratch s v label) BadLabel (leaf-label p scratch s v label c told a l e) (λ e. omega arith)

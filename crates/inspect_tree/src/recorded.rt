@@ -6,6 +6,7 @@ use crate::cells::put;
 use rows::layout::DEPTH;
 use rows::layout::FIRST;
 use rows::layout::LABEL;
+use rows::layout::LARGEST_LABEL;
 use rows::layout::LAST;
 use rows::layout::NEXT;
 use rows::layout::NONE;
@@ -92,9 +93,6 @@ fn is_one_less(l: i32, a: i32) -> bool
 {
     if l < a { l == a - 1 } else { false }
 }
-
-// Labels off the line go from 1 to this one.
-const LARGEST_LABEL: u16 = 9999;
 
 // Label of row x, which lies on the line or not.
 fn is_label(fields: &[u16], line: bool, x: u16) -> bool

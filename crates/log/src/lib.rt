@@ -99,7 +99,7 @@ fn whole_field(tag: u8, body: &[u8], next: usize) -> Field
 }
 
 // The place past the field at a place, or the same place where the log ends there or the field is cut short.
-fn next_at(log: &[u8], at: usize) -> usize
+pub fn next_at(log: &[u8], at: usize) -> usize
     ensures { λ r. ⌜ r ≡ nextAt (now (log .entry)) at ⌝ }
 {
     if log.len() < at {

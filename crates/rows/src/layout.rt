@@ -1,4 +1,4 @@
-// The places of a row's numbers in the lent parts, as docs/FORMAT.md lists them. No other file of the code writes them.
+// The places of a row's numbers in the lent parts, as docs/FORMAT.md lists them, and the largest label. No other file of the code writes them.
 // Names no row.
 pub const NONE: u16 = 65535;
 
@@ -24,6 +24,9 @@ pub const DEPTH: u16 = 8;
 pub const LABEL: u16 = 9;
 
 pub const FIELDS: usize = 10;
+
+// Labels of rows off the line from node 0 to the root go from 1 to this one.
+pub const LARGEST_LABEL: u16 = 9999;
 
 // 64-bit numbers of a row in `numbers`.
 pub const START: u16 = 0;

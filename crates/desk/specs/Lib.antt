@@ -1,0 +1,4 @@
+pub mod TableCalls
+pub mod TableCallsLaws
+pub mod TreeCalls
+pub mod TreeCallsLaws

@@ -1,0 +1,60 @@
+-- The table form for a C host: each call is that of the engine, with its answer in an out slice. A misfit of the out slice is looked for first.
+use mathlib.Core.Path.{_≡_}
+use mathlib.Core.List.{List}
+use Prim.Native.Nat.{ℕ, _<_}
+use lib.IntN.{ℤ}
+use lib.Dec.{eqb}
+use lib.ListN.{length}
+use Rattle.laws.specs.Test.{pick}
+use Rattle.rows.specs.declared.state.State.{State}
+use Rattle.rows.specs.Row.{Parts}
+use Rattle.set_up.specs.Blank.{setUp, partsAfter}
+use Rattle.growth.specs.Growth.{Outcome as GrowthOutcome, addLeaf, addRoot}
+use Rattle.query.specs.Question.{question}
+use Rattle.alike.specs.Alike.{alike}
+use Rattle.inspect.specs.Inspection.{inspection}
+use Rattle.replies.specs.Reply.{Reply, misfit, madeReply, grownReply, questionReply, alikeReply, inspectionReply}
+
+-- count and root, as they go in side by side
+abbrev pub stateOf : ℕ → ℕ → State
+stateOf count root = record { count = count; root = root }
+
+-- by whether the out slice has room for n values and no more
+abbrev pub onLength : {A B : Type 0} → ℕ → List A → B → B → B
+onLength n out served other = pick (eqb (length out) n) served other
+
+-- the reply, and the parts afterwards
+pub record Outcome : Type 0 where
+  pub replied : Reply ℕ
+  pub parts : Parts
+
+abbrev pub outcome : Parts → Reply ℕ → Outcome
+outcome t r = record { replied = r; parts = t }
+
+unfoldable pub setUpCall : Parts → List ℕ → Outcome
+setUpCall t out = onLength 2 out (outcome (partsAfter t) (madeReply out (setUp t))) (outcome t (misfit out))
+
+-- a growth's reply and parts
+abbrev pub afterGrowth : List ℕ → GrowthOutcome → Outcome
+afterGrowth out g = outcome (g .parts) (grownReply out (g .grown))
+
+-- of the scratch only its length counts, here and below
+unfoldable pub leafCall : Parts → List ℕ → ℕ → State → ℕ → ℕ → Outcome
+leafCall t out scratch s parent label = onLength 4 out (afterGrowth out (addLeaf t scratch s parent label)) (outcome t (misfit out))
+
+unfoldable pub rootCall : Parts → List ℕ → ℕ → State → Outcome
+rootCall t out scratch s = onLength 4 out (afterGrowth out (addRoot t scratch s)) (outcome t (misfit out))
+
+unfoldable pub questionCall : Parts → List ℤ → State → ℕ → ℕ → Reply ℤ
+questionCall t out s x y = onLength 6 out (questionReply out (question t s x y)) (misfit out)
+
+unfoldable pub alikeCall : Parts → List ℕ → State → ℕ → ℕ → Reply ℕ
+alikeCall t out s x y = onLength 1 out (alikeReply out (alike t s x y)) (misfit out)
+
+unfoldable pub inspectionCall : Parts → List ℕ → ℕ → State → Reply ℕ
+inspectionCall t out scratch s = onLength 1 out (inspectionReply out (inspection t scratch s)) (misfit out)
+
+-- the reply of an inspection; the scratch is unchanged on a refusal, and may hold anything of its length on success
+pub record InspectionCall (t : Parts) (out scratch : List ℕ) (s : State) (after : List ℕ) (r : Reply ℕ) : Type 0 where
+  pub replied : r ≡ inspectionCall t out (length scratch) s
+  pub unchanged : 0 < r .number → after ≡ scratch

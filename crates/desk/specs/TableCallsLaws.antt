@@ -1,0 +1,124 @@
+-- The calls of the table form, by whether the out slice has its length, from what the call of the engine and the reply left.
+use mathlib.Core.Path.{_≡_, refl, sym, ap, _∙_}
+use mathlib.Core.Logic.{_≢_}
+use mathlib.Core.List.{List}
+use Prim.Native.Nat.{ℕ, _<_}
+use native.Mathlib.Omega.{arith}
+use lib.IntN.{ℤ}
+use lib.ListN.{length}
+use Rattle.laws.specs.Test.{says-eqb, says-true, says-false}
+use Rattle.rows.specs.declared.state.State.{State}
+use Rattle.rows.specs.Row.{Parts}
+use Rattle.set_up.specs.declared.Made.{Made}
+use Rattle.set_up.specs.Blank.{setUp, partsAfter}
+use Rattle.growth.specs.declared.Grown.{Grown}
+use Rattle.growth.specs.Growth.{addLeaf, addRoot}
+use Rattle.growth.specs.Growth as growth
+use Rattle.query.specs.Outcome.{Outcome as QuestionOutcome}
+use Rattle.query.specs.Question.{question}
+use Rattle.alike.specs.Outcome.{Outcome as AlikeOutcome}
+use Rattle.alike.specs.Alike.{alike}
+use mathlib.Core.Bool.{Bool, true, false}
+use lib.Dec.{eqb}
+use Rattle.laws.specs.Test.{pick}
+use Rattle.rows.specs.Capacity.{capacityOf}
+use Rattle.rows.specs.Table.{tableOf}
+use Rattle.inspect_laws.specs.Inspects.{inspects}
+use Rattle.rows.specs.declared.capacity.Fit.{Fit}
+use Rattle.rows.specs.declared.capacity.Fit.the-variants.{Capacity, Misfit as Astray}
+use Rattle.rows.specs.declared.refusal.Refusal.{Refusal}
+use Rattle.rows.specs.declared.refusal.Refusal.the-variants.{Misfit}
+use Rattle.inspect.specs.declared.Inspected.{Inspected}
+use Rattle.inspect.specs.declared.Inspected.the-variants.{Passes, Refused}
+use Rattle.inspect.specs.Inspection.{inspection, inspectionIn, Inspection}
+use Rattle.replies.specs.Reply.{Reply, reply, misfit, madeReply, grownReply, questionReply, alikeReply, inspectionReply}
+use Rattle.desk.specs.TableCalls.{onLength, outcome, setUpCall, leafCall, rootCall, questionCall, alikeCall, inspectionCall, InspectionCall}
+
+-- Any out slice
+
+pub on-length : {A B : Type 0} (n : ℕ) (out : List A) (served other : B) → length out ≡ n → served ≡ onLength n out served other
+on-length n out served other e = rw (says-true (says-eqb (length out) n) e)
+
+pub off-length : {A B : Type 0} (n : ℕ) (out : List A) (served other : B) → length out ≢ n → other ≡ onLength n out served other
+off-length n out served other e = rw (says-false (says-eqb (length out) n) e)
+
+-- Calls that change the parts
+
+module _ (t : Parts) (out : List ℕ) {r : ℕ} where
+  pub set-up-misfit : r ≡ 3 → length out ≢ 2 → outcome t (reply r out) ≡ setUpCall t out
+  unfolding setUpCall
+  set-up-misfit h e = rw h (off-length 2 out _ (outcome t (misfit out)) e)
+
+  pub leaf-misfit : (scratch : ℕ) (s : State) (parent label : ℕ) → r ≡ 3 → length out ≢ 4 → outcome t (reply r out) ≡ leafCall t out scratch s parent label
+  unfolding leafCall
+  leaf-misfit scratch s parent label h e = rw h (off-length 4 out _ (outcome t (misfit out)) e)
+
+  pub root-misfit : (scratch : ℕ) (s : State) → r ≡ 3 → length out ≢ 4 → outcome t (reply r out) ≡ rootCall t out scratch s
+  unfolding rootCall
+  root-misfit scratch s h e = rw h (off-length 4 out _ (outcome t (misfit out)) e)
+
+module _ (t u : Parts) (out after : List ℕ) {r : ℕ} where
+  pub set-up-served : (m : Made) → length out ≡ 2 → m ≡ setUp t → u ≡ partsAfter t → reply r after ≡ madeReply out m → outcome u (reply r after) ≡ setUpCall t out
+  unfolding setUpCall
+  set-up-served m e a b h = rw (h, a, b) (on-length 2 out (outcome (partsAfter t) (madeReply out (setUp t))) _ e)
+
+  module _ (g : Grown) (scratch : ℕ) (s : State) (e : length out ≡ 4) (h : reply r after ≡ grownReply out g) where
+    pub leaf-served : (parent label : ℕ) → growth.outcome u g ≡ addLeaf t scratch s parent label → outcome u (reply r after) ≡ leafCall t out scratch s parent label
+    unfolding leafCall
+    leaf-served parent label a = rw (h, ← a) (on-length 4 out (outcome u (grownReply out g)) _ e)
+
+    pub root-served : growth.outcome u g ≡ addRoot t scratch s → outcome u (reply r after) ≡ rootCall t out scratch s
+    unfolding rootCall
+    root-served a = rw (h, ← a) (on-length 4 out (outcome u (grownReply out g)) _ e)
+
+-- inspection refuses only a misfit
+pub inspection-refused : (t : Parts) (cells : ℕ) (s : State) (r : Refusal) → inspection t cells s ≡ Refused r → inspection t cells s ≡ Refused Misfit
+unfolding inspection
+inspection-refused t cells s r = go (capacityOf t)
+  where
+    -- by whether the scratch fits
+    by : (c : ℕ) (b : Bool) → pick b (Passes (inspects c (tableOf t (s .count) (s .root)))) (Refused Misfit) ≡ Refused r
+        → pick b (Passes (inspects c (tableOf t (s .count) (s .root)))) (Refused Misfit) ≡ Refused Misfit
+    by c true e = let z : _≡_ {A = ℕ} 0 1 = cc in absurd (omega arith)
+    by c false e = refl
+
+    go : (f : Fit) → inspectionIn f t cells s ≡ Refused r → inspectionIn f t cells s ≡ Refused Misfit
+    go (Capacity c) e = by c (eqb cells c) e
+    go Astray e = refl
+
+-- Calls that only read
+
+module _ (t : Parts) (s : State) {r : ℕ} where
+  module _ (out : List ℤ) (x y : ℕ) where
+    pub question-misfit : r ≡ 3 → length out ≢ 6 → reply r out ≡ questionCall t out s x y
+    unfolding questionCall
+    question-misfit h e = rw h (off-length 6 out _ (misfit out) e)
+
+    pub question-served : (after : List ℤ) (a : QuestionOutcome) → length out ≡ 6 → a ≡ question t s x y → reply r after ≡ questionReply out a → reply r after ≡ questionCall t out s x y
+    unfolding questionCall
+    question-served after a e q h = rw (h, q) (on-length 6 out (questionReply out (question t s x y)) _ e)
+
+  module _ (out : List ℕ) (x y : ℕ) where
+    pub alike-misfit : r ≡ 3 → length out ≢ 1 → reply r out ≡ alikeCall t out s x y
+    unfolding alikeCall
+    alike-misfit h e = rw h (off-length 1 out _ (misfit out) e)
+
+    pub alike-served : (after : List ℕ) (a : AlikeOutcome) → length out ≡ 1 → a ≡ alike t s x y → reply r after ≡ alikeReply out a → reply r after ≡ alikeCall t out s x y
+    unfolding alikeCall
+    alike-served after a e q h = rw (h, q) (on-length 1 out (alikeReply out (alike t s x y)) _ e)
+
+  module _ (out scratch : List ℕ) where
+    pub inspection-misfit : r ≡ 3 → length out ≢ 1 → InspectionCall t out scratch s scratch (reply r out)
+    unfolding inspectionCall
+    inspection-misfit h e = record { replied = rw h (off-length 1 out _ (misfit out) e); unchanged = λ _. refl }
+
+    pub inspection-served : (after left : List ℕ) (i : Inspected) → length out ≡ 1 → Inspection t scratch s left i → reply r after ≡ inspectionReply out i → InspectionCall t out scratch s left (reply r after)
+    unfolding inspectionCall
+    inspection-served after left i e q h = record {
+      replied = rw (h, q .outcome) (on-length 1 out (inspectionReply out (inspection t (length scratch) s)) _ e);
+      unchanged = go i q h;
+    }
+      where
+        go : (i : Inspected) → Inspection t scratch s left i → reply r after ≡ inspectionReply out i → 0 < r → left ≡ scratch
+        go (Passes b) q h l = let z : r ≡ 0 = ap (λ (p : Reply ℕ). p .number) h in absurd (omega arith)
+        go (Refused n) q h l = q .unchanged (q .outcome ∙ inspection-refused t (length scratch) s n (sym (q .outcome)))

@@ -1,0 +1,170 @@
+// The table form: the lent parts of a table as they are, count and root by value.
+use replies::reply_answered;
+use replies::reply_compared;
+use replies::reply_grown;
+use replies::reply_inspected;
+use replies::reply_made;
+use rows::refusal::Refusal;
+use rows::refusal::number_of;
+use rows::state::State;
+ghost use mathlib.Core.Path.{_≡_};
+ghost use lib.ListN.{length};
+ghost use Rattle.rows.specs.Row.{partsOf};
+ghost use Rattle.replies.specs.Reply.{reply};
+ghost use Rattle.desk.specs.TableCalls.{stateOf, outcome, setUpCall, leafCall, rootCall, questionCall, alikeCall, InspectionCall};
+
+// An empty table. Out: count, root.
+#[no_mangle]
+pub extern "C" fn nca_table_set_up(
+    fields: &mut [u16],
+    numbers: &mut [u64],
+    levels: &mut [i32],
+    ancestors: &mut [u16],
+    out: &mut [u16],
+) -> u16
+    ensures { λ r. ⌜ outcome (partsOf (now (fields .exit)) (now (numbers .exit)) (now (levels .exit)) (now (ancestors .exit))) (reply r (now (out .exit))) ≡ setUpCall (partsOf (now (fields .entry)) (now (numbers .entry)) (now (levels .entry)) (now (ancestors .entry))) (now (out .entry)) ⌝ }
+{
+    if out.len() != 2 {
+        return number_of(Refusal::Misfit);
+    }
+    let made = set_up::set_up(fields, numbers, levels, ancestors);
+    reply_made(made, out)
+}
+
+// A new leaf. Out: count, root, node, rows renumbered.
+#[no_mangle]
+pub extern "C" fn nca_table_add_leaf(
+    fields: &mut [u16],
+    numbers: &mut [u64],
+    levels: &mut [i32],
+    ancestors: &mut [u16],
+    scratch: &[u16],
+    count: u16,
+    root: u16,
+    parent: u16,
+    label: u16,
+    out: &mut [u16],
+) -> u16
+    ensures { λ r. ⌜ outcome (partsOf (now (fields .exit)) (now (numbers .exit)) (now (levels .exit)) (now (ancestors .exit))) (reply r (now (out .exit))) ≡ leafCall (partsOf (now (fields .entry)) (now (numbers .entry)) (now (levels .entry)) (now (ancestors .entry))) (now (out .entry)) (length (now (scratch .entry))) (stateOf count root) parent label ⌝ }
+{
+    if out.len() != 4 {
+        return number_of(Refusal::Misfit);
+    }
+    let state = State {
+        count: count,
+        root: root,
+    };
+    let grown = growth::add_leaf(
+        fields,
+        numbers,
+        levels,
+        ancestors,
+        scratch,
+        state,
+        parent,
+        label,
+    );
+    reply_grown(grown, out)
+}
+
+// A new root. Out: count, root, node, rows renumbered.
+#[no_mangle]
+pub extern "C" fn nca_table_add_root(
+    fields: &mut [u16],
+    numbers: &mut [u64],
+    levels: &mut [i32],
+    ancestors: &mut [u16],
+    scratch: &[u16],
+    count: u16,
+    root: u16,
+    out: &mut [u16],
+) -> u16
+    ensures { λ r. ⌜ outcome (partsOf (now (fields .exit)) (now (numbers .exit)) (now (levels .exit)) (now (ancestors .exit))) (reply r (now (out .exit))) ≡ rootCall (partsOf (now (fields .entry)) (now (numbers .entry)) (now (levels .entry)) (now (ancestors .entry))) (now (out .entry)) (length (now (scratch .entry))) (stateOf count root) ⌝ }
+{
+    if out.len() != 4 {
+        return number_of(Refusal::Misfit);
+    }
+    let state = State {
+        count: count,
+        root: root,
+    };
+    let grown = growth::add_root(fields, numbers, levels, ancestors, scratch, state);
+    reply_grown(grown, out)
+}
+
+// The characteristic ancestors of x and y. Out: nearest common ancestor, branches towards x and y, distances of x and y, label.
+#[no_mangle]
+pub extern "C" fn nca_table_query(
+    fields: &[u16],
+    numbers: &[u64],
+    levels: &[i32],
+    ancestors: &[u16],
+    count: u16,
+    root: u16,
+    x: u16,
+    y: u16,
+    out: &mut [i32],
+) -> u16
+    ensures { λ r. ⌜ reply r (now (out .exit)) ≡ questionCall (partsOf (now (fields .entry)) (now (numbers .entry)) (now (levels .entry)) (now (ancestors .entry))) (now (out .entry)) (stateOf count root) x y ⌝ }
+{
+    if out.len() != 6 {
+        return number_of(Refusal::Misfit);
+    }
+    let state = State {
+        count: count,
+        root: root,
+    };
+    let answered = query::characteristic_ancestors(fields, numbers, levels, ancestors, state, x, y);
+    reply_answered(answered, out)
+}
+
+// Whether x and y have equal lists of labels. Out: 1 or 0.
+#[no_mangle]
+pub extern "C" fn nca_table_alike(
+    fields: &[u16],
+    numbers: &[u64],
+    levels: &[i32],
+    ancestors: &[u16],
+    count: u16,
+    root: u16,
+    x: u16,
+    y: u16,
+    out: &mut [u16],
+) -> u16
+    ensures { λ r. ⌜ reply r (now (out .exit)) ≡ alikeCall (partsOf (now (fields .entry)) (now (numbers .entry)) (now (levels .entry)) (now (ancestors .entry))) (now (out .entry)) (stateOf count root) x y ⌝ }
+{
+    if out.len() != 1 {
+        return number_of(Refusal::Misfit);
+    }
+    let state = State {
+        count: count,
+        root: root,
+    };
+    let compared = alike::same_labels(fields, numbers, levels, ancestors, state, x, y);
+    reply_compared(compared, out)
+}
+
+// Whether the table passes inspection. Out: 1 or 0.
+#[no_mangle]
+pub extern "C" fn nca_table_inspect(
+    fields: &[u16],
+    numbers: &[u64],
+    levels: &[i32],
+    ancestors: &[u16],
+    scratch: &mut [u16],
+    count: u16,
+    root: u16,
+    out: &mut [u16],
+) -> u16
+    ensures { λ r. ⌜ InspectionCall (partsOf (now (fields .entry)) (now (numbers .entry)) (now (levels .entry)) (now (ancestors .entry))) (now (out .entry)) (now (scratch .entry)) (stateOf count root) (now (scratch .exit)) (reply r (now (out .exit))) ⌝ }
+{
+    if out.len() != 1 {
+        return number_of(Refusal::Misfit);
+    }
+    let state = State {
+        count: count,
+        root: root,
+    };
+    let inspected = inspect::inspect(fields, numbers, levels, ancestors, scratch, state);
+    reply_inspected(inspected, out)
+}

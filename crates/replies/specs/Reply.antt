@@ -1,0 +1,51 @@
+-- What a call gives a C host: 0 or 01's refusal number, and the out slice afterwards. A refusal leaves the out slice as it was.
+use mathlib.Core.List.{List, [], _∷_}
+use Prim.Native.Nat.{ℕ}
+use lib.IntN.{ℤ, pos}
+use Rattle.laws.specs.Test.{bit}
+use Rattle.rows.specs.declared.refusal.Refusal.the-variants.{Misfit}
+use Rattle.rows.specs.Refusal.{numberOf}
+use Rattle.set_up.specs.declared.Made.{Made}
+use Rattle.set_up.specs.declared.Made.the-variants.{Empty, Refused as NotMade}
+use Rattle.growth.specs.declared.Grown.{Grown}
+use Rattle.growth.specs.declared.Grown.the-variants.{Node, Refused as NotGrown}
+use Rattle.query.specs.Outcome.{Outcome as QuestionOutcome, refusal as noAnswer, answer}
+use Rattle.alike.specs.Outcome.{Outcome as AlikeOutcome, refusal as noValue, value}
+use Rattle.inspect.specs.declared.Inspected.{Inspected}
+use Rattle.inspect.specs.declared.Inspected.the-variants.{Passes, Refused as NotInspected}
+
+pub record Reply (A : Type 0) : Type 0 where
+  pub number : ℕ
+  pub out : List A
+
+abbrev pub reply : {A : Type 0} → ℕ → List A → Reply A
+reply n l = record { number = n; out = l }
+
+-- an out slice of another length is a misfit
+abbrev pub misfit : {A : Type 0} → List A → Reply A
+misfit out = reply (numberOf Misfit) out
+
+-- count and root
+abbrev pub madeReply : List ℕ → Made → Reply ℕ
+madeReply out (Empty s) = reply 0 (s .count ∷ s .root ∷ [])
+madeReply out (NotMade r) = reply (numberOf r) out
+
+-- count, root, the new node, and the rows renumbered
+abbrev pub grownReply : List ℕ → Grown → Reply ℕ
+grownReply out (Node g) = reply 0 (g .state .count ∷ g .state .root ∷ g .node ∷ g .rows ∷ [])
+grownReply out (NotGrown r) = reply (numberOf r) out
+
+-- the nearest common ancestor, the branches towards x and y, their distances, and the label
+abbrev pub questionReply : List ℤ → QuestionOutcome → Reply ℤ
+questionReply out (noAnswer n) = reply n out
+questionReply out (answer a u v i j l) = reply 0 (pos a ∷ pos u ∷ pos v ∷ i ∷ j ∷ pos l ∷ [])
+
+-- 1 or 0
+abbrev pub alikeReply : List ℕ → AlikeOutcome → Reply ℕ
+alikeReply out (noValue n) = reply n out
+alikeReply out (value b) = reply 0 (b ∷ [])
+
+-- 1 or 0
+abbrev pub inspectionReply : List ℕ → Inspected → Reply ℕ
+inspectionReply out (Passes b) = reply 0 (bit b ∷ [])
+inspectionReply out (NotInspected r) = reply (numberOf r) out
