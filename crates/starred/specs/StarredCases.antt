@@ -3,7 +3,6 @@ use mathlib.Core.Path.{_≡_, refl}
 use mathlib.Core.List.{List, [], _∷_}
 use Rattle.laws.specs.Fourth.{fourth}
 use Rattle.tree_laws.specs.Compressed.{isApex}
-use Rattle.tree_laws.specs.PlainFromStored.{plainNca, plainToX, plainToY}
 use Rattle.tree_laws.specs.StoredFromCompressed.{pathRow, higher, branchAt}
 use Rattle.span.specs.Numbers.{capped}
 use Rattle.span.specs.Power.{power}
@@ -55,9 +54,9 @@ use Rattle.growth.specs.Plan.{
 use Rattle.growth.specs.Store.{storedBy}
 use Rattle.growth.specs.Growth.{served, grownBy, addLeaf, addRoot}
 use Rattle.query.specs.Reading.{isRow, covers}
-use Rattle.query.specs.CompressedStep.{climb, atEntry, pastEntry, pastReach, pastSpan, sideFrom}
+use Rattle.query.specs.CompressedStep.{arrive, climb, atEntry, pastEntry, pastReach, pastSpan, sideFrom}
 use Rattle.query.specs.StoredAnswer.{isOnRow, forked, meeting, branchOf, join, between, storedFrom}
-use Rattle.query.specs.PlainAnswer.{plainFrom, plainAnswer}
+use Rattle.query.specs.PlainAnswer.{isAbove, leadsOn, lowerX, lowerY, lowered, areRows, plainFrom, plainAnswer}
 use Rattle.query.specs.Question.{isServed, served as answerServed, asked, question}
 use Rattle.sequence.specs.Run.{step, run, totalIn}
 use Rattle.starred.specs.Cases.{Case, seen, cases}
@@ -69,7 +68,7 @@ AllHold (c ∷ cs) = (seen c ≡ c .due) × AllHold cs
 
 pub starred-cases : AllHold cases
 unfolding cases fourth
-    isApex plainNca plainToX plainToY pathRow higher branchAt
+    isApex pathRow higher branchAt
     capped power rankTo rankOf
     fits capacityOf isSound isStanding
     tabulate blank partsAfter
@@ -78,7 +77,7 @@ unfolding cases fourth
     isGood levelOf outgrownAt topFrom raisedAt raised isReadable entered leftRow checkTurn checkWalk firstOf firstAfter nextAfter parentAfter newLinks
     newValues linked attached upperUnder upperFor oldHead headOf isSeated isWhole plannedAt plannedRow leafWithin leafPlan rootOver rootWithin
     rootPlan storedBy served grownBy addLeaf addRoot
-    isRow covers climb atEntry pastEntry pastReach pastSpan sideFrom isOnRow forked meeting branchOf join between storedFrom plainFrom plainAnswer
-    isServed answerServed asked question
+    isRow covers arrive climb atEntry pastEntry pastReach pastSpan sideFrom isOnRow forked meeting branchOf join between storedFrom
+    isAbove leadsOn lowerX lowerY lowered areRows plainFrom plainAnswer isServed answerServed asked question
     step run totalIn
 starred-cases = (refl, (refl, (refl, (refl, tt))))
