@@ -4,7 +4,6 @@ use mathlib.Core.Bool.{Bool, true, false}
 use Prim.Native.Nat.{ℕ, zero, suc, _≤_, _<_}
 use native.Mathlib.Omega.{arith}
 use borrow.Author.Tests.{lt-ltb, le-ltb}
-use Rattle.tree_laws.specs.Ancestor.{none}
 use Rattle.rows.specs.declared.capacity.Fit.the-variants.{Capacity, Misfit as Unfit}
 use Rattle.rows.specs.declared.refusal.Refusal.the-variants.{UnknownNode, Misfit, Corrupt}
 use Rattle.rows.specs.declared.state.State.{State}
@@ -18,7 +17,7 @@ use Rattle.alike.specs.declared.walk.Turn.the-variants.{Told, On, Lost}
 use Rattle.alike.specs.PlainParent.{branchFrom, towardRoot}
 use Rattle.alike.specs.Walk.{turnAt}
 use Rattle.alike.specs.Outcome.{same, refused}
-use Rattle.alike.specs.Alike.{after, walked, served, asked, alike}
+use Rattle.alike.specs.Alike.{walked, served, asked, alike}
 
 -- the branch towards the root, by the stored answer
 pub toward-root : (t : Table) (z : ℕ) {f : Fork} → f ≡ storedAnswer t z (t .root) → branchFrom z f ≡ towardRoot t z

@@ -1,5 +1,5 @@
 -- One turn of the walk of two nodes up the plain tree, on any table.
-use mathlib.Core.Bool.{Bool, true, false, _&&_}
+use mathlib.Core.Bool.{true, false, _&&_}
 use Prim.Native.Nat.{ℕ}
 use lib.Dec.{eqb}
 use Rattle.laws.specs.Test.{pick}

@@ -3,7 +3,7 @@ use mathlib.Core.Path.{_≡_, sym}
 use mathlib.Core.Bool.{true, false}
 use mathlib.Core.Logic.{_≢_}
 use mathlib.Core.List.{List}
-use Prim.Native.Nat.{ℕ, _*_, _≤_, _<_}
+use Prim.Native.Nat.{ℕ, _≤_, _<_}
 use native.Mathlib.Nat.{mul-le-mul-right}
 use native.Mathlib.Omega.{arith}
 use lib.IntN.{ℤ, pos, _+ℤ_, _-ℤ_}
@@ -21,8 +21,6 @@ use Rattle.rows.specs.State.{isStanding}
 use Rattle.rows.specs.StateLaws.{says-standing}
 use Rattle.growth.specs.declared.chain.Top.the-variants.{At as Found, Corrupt as Broken}
 use Rattle.growth.specs.declared.level.Level.the-variants.{At, Out}
-use Rattle.renumber.specs.declared.Head.{Head}
-use Rattle.growth.specs.declared.plan.Planned.{Planned}
 use Rattle.growth.specs.declared.plan.Planned.the-variants.{Grow, Refuse}
 use Rattle.renumber.specs.Count.{oneMore}
 use Rattle.growth.specs.Good.{Held, isGood}

@@ -15,7 +15,6 @@ use Rattle.rows.specs.CapacityLaws.{capacity-fits}
 use Rattle.rows.specs.Table.{Table}
 use Rattle.rows.specs.Rules.{Rules}
 use Rattle.rows.specs.declared.refusal.Refusal.the-variants as refusal
-use Rattle.set_up.specs.declared.Made.{Made}
 use Rattle.set_up.specs.declared.Made.the-variants.{Empty, Refused}
 use Rattle.set_up.specs.Blank.{blankField, blank, made, setUp, leaves, partsAfter}
 

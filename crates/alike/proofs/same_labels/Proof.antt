@@ -1,5 +1,5 @@
 -- `same_labels`: its tests are those of the definition, in the same order.
-use mathlib.Core.Path.{_≡_, sym, _∙_}
+use mathlib.Core.Path.{sym, _∙_}
 use borrow.Author.Tests.{not-true, not-false}
 use Rattle.laws.specs.Test.{says-get}
 use Rattle.rows.specs.CapacityLaws.{fits-capacity}

@@ -1,5 +1,4 @@
 -- `clear_fields` fills the fields from the front.
-use mathlib.Core.Path.{refl}
 use Prim.Native.Nat.{_-_}
 use native.Mathlib.Omega.{arith}
 use borrow.Author.Needs.{needs}
