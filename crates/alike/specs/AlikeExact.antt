@@ -26,7 +26,7 @@ use Rattle.numbering.specs.SoundRows.{depth-below}
 use Rattle.question.specs.CompressedExact.{row-passes}
 use Rattle.question.specs.PlainExact.{plain-tree}
 use Rattle.question.specs.QuestionExact.{recorded, fits-told, rules-standing}
-use Rattle.alike.specs.LevelLaws.{says-eqZ}
+use Rattle.query.specs.LevelLaws.{says-eqZ}
 use Rattle.alike.specs.LabelLaws.{same-depth, same-itself, same-below, same-above}
 use Rattle.alike.specs.PlainParentExact.{plain-up}
 use Rattle.alike.specs.Walk.{turnAt}

@@ -12,20 +12,18 @@ use Rattle.rows.specs.Row.{Parts}
 use Rattle.rows.specs.Capacity.{capacityOf}
 use Rattle.rows.specs.State.{isStanding}
 use Rattle.rows.specs.Table.{Table, tableOf}
-use Rattle.rows.specs.Spans.{p}
 use Rattle.query.specs.declared.stored.Fork.{Fork}
-use Rattle.query.specs.StoredAnswer.{storedFrom}
+use Rattle.query.specs.StoredAnswer.{storedAnswer}
 use Rattle.alike.specs.declared.walk.Turn.the-variants.{Told, On, Lost}
 use Rattle.alike.specs.PlainParent.{branchFrom, towardRoot}
 use Rattle.alike.specs.Walk.{turnAt}
 use Rattle.alike.specs.Outcome.{same, refused}
 use Rattle.alike.specs.Alike.{after, walked, served, asked, alike}
 
--- the branch towards the root, by the numbers of both rows
-pub toward-root : (t : Table) (z : ℕ) {m n : ℕ} {f : Fork} → m ≡ p t z → n ≡ p t (t .root) → f ≡ storedFrom t m n z (t .root)
-    → branchFrom z f ≡ towardRoot t z
+-- the branch towards the root, by the stored answer
+pub toward-root : (t : Table) (z : ℕ) {f : Fork} → f ≡ storedAnswer t z (t .root) → branchFrom z f ≡ towardRoot t z
 unfolding towardRoot
-toward-root t z e g h = rw (h, e, g)
+toward-root t z h = rw h
 
 -- the walk by one turn
 module _ (t : Table) (x y : ℕ) where

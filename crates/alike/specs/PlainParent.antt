@@ -1,19 +1,14 @@
 -- The plain parent of a row as the code finds it, on any table (01, "Images and plain tree"). A row whose level is minus its depth is taken to lie
 -- on the line from node 0 to the root; labels play no part in it.
-use mathlib.Core.Bool.{Bool, _&&_}
+use mathlib.Core.Bool.{_&&_}
 use Prim.Native.Nat.{ℕ}
 use lib.Dec.{eqb}
-use lib.IntN.{pos, _+ℤ_}
 use Rattle.laws.specs.Test.{pick}
 use Rattle.tree_laws.specs.Ancestor.{none}
-use Rattle.rows.specs.Table.{Table, parent, depth, level}
+use Rattle.rows.specs.Table.{Table, parent}
 use Rattle.query.specs.declared.stored.Fork.{Fork}
+use Rattle.query.specs.Line.{isLineLevel}
 use Rattle.query.specs.StoredAnswer.{storedAnswer}
-use Rattle.alike.specs.Levels.{eqZ}
-
--- the level of z is minus its depth
-abbrev pub isLineLevel : Table → ℕ → Bool
-isLineLevel t z = eqZ (level t z +ℤ pos (depth t z)) (pos 0)
 
 -- the branch towards y of a sound answer whose nearest common ancestor is x, else none
 abbrev pub branchFrom : ℕ → Fork → ℕ

@@ -4,21 +4,20 @@ use mathlib.Core.Bool.{Bool, true, false}
 use Prim.Native.Nat.{ℕ, _≤_, _<_}
 use native.Mathlib.Omega.{arith}
 use lib.Dec.{eqb}
-use lib.IntN.{pos, _+ℤ_}
 use Rattle.laws.specs.Test.{says-eq, says-eqb, pick}
 use Rattle.tree_laws.specs.Ancestor.{none, Forest}
 use Rattle.tree_laws.specs.NcaLaws.{nca-anc, nca-unique}
 use Rattle.tree_laws.specs.PlainFromStored.{plainStep, plain-parent-step}
 use Rattle.rows.specs.Capacity.{capacityLimit}
-use Rattle.rows.specs.Table.{Table, parent, depth, level}
+use Rattle.rows.specs.Table.{Table, parent, depth}
 use Rattle.rows.specs.PlainTree.{plain}
 use Rattle.rows.specs.Rules.{Rules}
 use Rattle.numbering.specs.Numbered.{numbered, storedTree}
-use Rattle.numbering.specs.LevelLaws.{line-level, level-line}
+use Rattle.query.specs.Line.{isLineLevel}
 use Rattle.query.specs.StoredAnswer.{storedAnswer}
 use Rattle.question.specs.StoredExact.{stored-exact}
-use Rattle.alike.specs.LevelLaws.{says-eqZ}
-use Rattle.alike.specs.PlainParent.{isLineLevel, towardRoot, plainUp}
+use Rattle.question.specs.PlainExact.{says-line}
+use Rattle.alike.specs.PlainParent.{towardRoot, plainUp}
 
 -- a branch that is taken where its own test holds
 pick-twice : (b c : Bool) (u w v : ℕ) → pick b u (pick c (pick c w u) v) ≡ pick b u (pick c w v)
@@ -33,8 +32,7 @@ module _ {capacity : ℕ} {t : Table} (r : Rules capacity t) (fits : capacity �
   line-test : (z : ℕ) → z < t .count → isLineLevel t z ≡ eqb (storedAnswer t z (t .root) .nca) z
   line-test z l =
       let nca = stored-exact r fits z (t .root) l (r .one .root (omega arith)) .characteristic .nca in
-      says-eq (λ e. nca-unique tree l nca (nca-anc (level-line r fits z l e))) (λ e. line-level r fits z l (rw e at (nca .right)))
-      (says-eqZ (level t z +ℤ pos (depth t z)) (pos 0)) (says-eqb (storedAnswer t z (t .root) .nca) z)
+      says-eq (λ o. nca-unique tree l nca (nca-anc o)) (λ e. rw e at (nca .right)) (says-line r fits z l) (says-eqb (storedAnswer t z (t .root) .nca) z)
 
   pub plain-up : (z : ℕ) → z < t .count → plainUp t z ≡ plain t z
   unfolding plainUp towardRoot plainStep

@@ -7,7 +7,7 @@ use Rattle.rows.specs.Table.{Table, label, level}
 use Rattle.query.specs.Reading.{isRow}
 use Rattle.alike.specs.declared.walk.Turn.{Turn}
 use Rattle.alike.specs.declared.walk.Turn.the-variants.{Told, On, Lost}
-use Rattle.alike.specs.Levels.{eqZ}
+use Rattle.query.specs.Line.{eqZ}
 use Rattle.alike.specs.PlainParent.{plainUp}
 
 -- rows of unequal levels have lists of unequal length; a row has its own list; unequal labels end unequal lists; else the plain parents decide

@@ -1,7 +1,6 @@
 // The plain parent of a row, on any table: its stored parent, or on the line from node 0 to the root the next row towards the root.
-use crate::level::is_line_level;
-use query::row::p_at;
-use query::stored::stored_from;
+use query::line::is_line_level;
+use query::stored::stored_answer;
 use rows::layout::NONE;
 use rows::layout::PARENT;
 use rows::row::field;
@@ -25,9 +24,7 @@ fn toward_root(
     ensures { λ r. ⌜ r ≡ towardRoot (asTable (now (fields .entry)) (now (numbers .entry)) (now (levels .entry)) (now (ancestors .entry)) state) z ⌝ }
 {
     let root = state.root;
-    let pz = p_at(fields, numbers, levels, ancestors, state, z);
-    let pr = p_at(fields, numbers, levels, ancestors, state, root);
-    let f = stored_from(fields, numbers, levels, ancestors, state, pz, pr, z, root);
+    let f = stored_answer(fields, numbers, levels, ancestors, state, z, root);
     if f.sound & (f.nca == z) {
         return f.to_y;
     }

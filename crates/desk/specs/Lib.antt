@@ -1,4 +1,4 @@
-pub mod Reply
-pub mod ReplyLaws
 pub mod TableCalls
 pub mod TableCallsLaws
+pub mod TreeCalls
+pub mod TreeCallsLaws

@@ -13,7 +13,7 @@ use Rattle.growth.specs.Growth.{Outcome as GrowthOutcome, addLeaf, addRoot}
 use Rattle.query.specs.Question.{question}
 use Rattle.alike.specs.Alike.{alike}
 use Rattle.inspect.specs.Inspection.{inspection}
-use Rattle.desk.specs.Reply.{Reply, misfit, madeReply, grownReply, questionReply, alikeReply, inspectionReply}
+use Rattle.replies.specs.Reply.{Reply, misfit, madeReply, grownReply, questionReply, alikeReply, inspectionReply}
 
 -- count and root, as they go in side by side
 abbrev pub stateOf : ℕ → ℕ → State

@@ -2,13 +2,21 @@
 use mathlib.Core.Path.{_≡_, refl, sym, ap, _∙_}
 use mathlib.Core.Logic.{_≢_}
 use mathlib.Core.List.{List}
+use mathlib.Core.Bool.{Bool, true, false}
 use Prim.Native.Nat.{ℕ, _<_}
 use native.Mathlib.Omega.{arith}
 use lib.IntN.{ℤ}
 use lib.ListN.{length}
-use Rattle.laws.specs.Test.{says-eqb, says-true, says-false}
+use lib.Dec.{eqb}
+use Rattle.laws.specs.Test.{says-eqb, says-true, says-false, pick}
 use Rattle.rows.specs.declared.state.State.{State}
 use Rattle.rows.specs.Row.{Parts}
+use Rattle.rows.specs.Capacity.{capacityOf}
+use Rattle.rows.specs.Table.{tableOf}
+use Rattle.rows.specs.declared.capacity.Fit.{Fit}
+use Rattle.rows.specs.declared.capacity.Fit.the-variants.{Capacity, Misfit as Astray}
+use Rattle.rows.specs.declared.refusal.Refusal.{Refusal}
+use Rattle.rows.specs.declared.refusal.Refusal.the-variants.{Misfit}
 use Rattle.set_up.specs.declared.Made.{Made}
 use Rattle.set_up.specs.Blank.{setUp, partsAfter}
 use Rattle.growth.specs.declared.Grown.{Grown}
@@ -18,20 +26,11 @@ use Rattle.query.specs.Outcome.{Outcome as QuestionOutcome}
 use Rattle.query.specs.Question.{question}
 use Rattle.alike.specs.Outcome.{Outcome as AlikeOutcome}
 use Rattle.alike.specs.Alike.{alike}
-use mathlib.Core.Bool.{Bool, true, false}
-use lib.Dec.{eqb}
-use Rattle.laws.specs.Test.{pick}
-use Rattle.rows.specs.Capacity.{capacityOf}
-use Rattle.rows.specs.Table.{tableOf}
 use Rattle.inspect_laws.specs.Inspects.{inspects}
-use Rattle.rows.specs.declared.capacity.Fit.{Fit}
-use Rattle.rows.specs.declared.capacity.Fit.the-variants.{Capacity, Misfit as Astray}
-use Rattle.rows.specs.declared.refusal.Refusal.{Refusal}
-use Rattle.rows.specs.declared.refusal.Refusal.the-variants.{Misfit}
 use Rattle.inspect.specs.declared.Inspected.{Inspected}
 use Rattle.inspect.specs.declared.Inspected.the-variants.{Passes, Refused}
 use Rattle.inspect.specs.Inspection.{inspection, inspectionIn, Inspection}
-use Rattle.desk.specs.Reply.{Reply, reply, misfit, madeReply, grownReply, questionReply, alikeReply, inspectionReply}
+use Rattle.replies.specs.Reply.{Reply, reply, misfit, madeReply, grownReply, questionReply, alikeReply, inspectionReply}
 use Rattle.desk.specs.TableCalls.{onLength, outcome, setUpCall, leafCall, rootCall, questionCall, alikeCall, inspectionCall, InspectionCall}
 
 -- Any out slice

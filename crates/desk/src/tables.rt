@@ -1,16 +1,16 @@
 // The table form: the lent parts of a table as they are, count and root by value.
-use crate::answers::reply_answered;
-use crate::answers::reply_compared;
-use crate::answers::reply_grown;
-use crate::answers::reply_inspected;
-use crate::answers::reply_made;
+use replies::reply_answered;
+use replies::reply_compared;
+use replies::reply_grown;
+use replies::reply_inspected;
+use replies::reply_made;
 use rows::refusal::Refusal;
 use rows::refusal::number_of;
 use rows::state::State;
 ghost use mathlib.Core.Path.{_≡_};
 ghost use lib.ListN.{length};
 ghost use Rattle.rows.specs.Row.{partsOf};
-ghost use Rattle.desk.specs.Reply.{reply};
+ghost use Rattle.replies.specs.Reply.{reply};
 ghost use Rattle.desk.specs.TableCalls.{stateOf, outcome, setUpCall, leafCall, rootCall, questionCall, alikeCall, InspectionCall};
 
 // An empty table. Out: count, root.

@@ -65,7 +65,7 @@ length-end count total h k = simp (length-append) (omega (arith, length-digits-3
 
 pub line-written : (t : Text) (ordinal letter : ℕ) (zs : List ℤ) (count : ℕ) → ordinal < 2 ^ 32 → length zs ≡ 6 → Small zs
     → t ≡ push (append (push (push (append (textOf []) (digits ordinal)) (code " ")) letter) (valuesOf (take count zs))) (code "\n")
-    → (t ≡ textOf (lineOf ordinal letter (take count zs))) × (t .len ≤ length (t .bytes))
+    → (t ≡ textOf (lineOf ordinal letter (take count zs))) × (t .len ≤ 96)
 unfolding lineOf
 line-written t ordinal letter zs count h six small e =
     append-line t (lineOf ordinal letter (take count zs)) (length-line ordinal letter zs count h six small)
@@ -73,7 +73,7 @@ line-written t ordinal letter zs count h six small e =
 
 pub header-written : (t : Text) (capacity : ℕ) → capacity < 2 ^ 32
     → t ≡ push (append (push (push (push (push (push (textOf []) (code "e")) (code "c")) (code "h")) (code "o")) (code " ")) (digits capacity)) (code "\n")
-    → (t ≡ textOf (headerLine capacity)) × (t .len ≤ length (t .bytes))
+    → (t ≡ textOf (headerLine capacity)) × (t .len ≤ 96)
 unfolding headerLine
 header-written t capacity h e =
     append-line t (headerLine capacity) (length-header capacity h) (e ∙ simp (push-append, append-append, append-assoc))
@@ -82,7 +82,7 @@ pub end-written : (t : Text) (count total : ℕ) → count < 2 ^ 32 → total < 
     → t
     ≡ push (append (push (append (push (push (push (push (textOf []) (code "e")) (code "n")) (code "d")) (code " ")) (digits count)) (code " ")) (digits total))
     (code "\n")
-    → (t ≡ textOf (endLine count total)) × (t .len ≤ length (t .bytes))
+    → (t ≡ textOf (endLine count total)) × (t .len ≤ 96)
 unfolding endLine
 end-written t count total h k e =
     append-line t (endLine count total) (length-end count total h k) (e ∙ simp (push-append, append-append, append-assoc))

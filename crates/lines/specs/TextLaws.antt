@@ -54,10 +54,9 @@ append-text line (b ∷ more) h =
     (append-text (line ++ b ∷ []) more (omega (arith, length-append line (b ∷ []))) ∙ ap textOf (append-snoc line b more))
 
 -- bytes that fit make the text of their line
-pub append-line : (t : Text) (line : List ℕ) → length line ≤ 96 → t ≡ append (textOf []) line → (t ≡ textOf line) × (t .len ≤ length (t .bytes))
+pub append-line : (t : Text) (line : List ℕ) → length line ≤ 96 → t ≡ append (textOf []) line → (t ≡ textOf line) × (t .len ≤ 96)
 unfolding textOf
-append-line t line h e =
-    let whole = e ∙ append-text [] line (omega arith) in (whole, rw whole (omega (arith, length-append line (replicate (96 - length line) 0))))
+append-line t line h e = let whole = e ∙ append-text [] line (omega arith) in (whole, rw whole h)
 
 -- ---- a number more
 

@@ -8,7 +8,7 @@ use decimal::put_number;
 use decimal::put_signed;
 ghost use mathlib.Core.Path.{_≡_};
 ghost use Prim.Native.Nat.{_≤_};
-ghost use lib.ListN.{length, take};
+ghost use lib.ListN.{take};
 ghost use Rattle.lines.specs.Line.{lineOf, headerLine, endLine, valuesOf};
 ghost use Rattle.lines.specs.Text.{textOf, append};
 
@@ -36,7 +36,7 @@ fn put_values(mut t: Text, values: [i32; 6], count: usize) -> Text
 // The line of a field: its ordinal, a letter, and the first of the values.
 pub fn line(ordinal: u32, letter: u8, values: [i32; 6], count: usize) -> Text
     ensures text { λ r. ⌜ r ≡ textOf (lineOf ordinal letter (take count values)) ⌝ }
-    ensures fits { λ r. ⌜ r .len ≤ length (r .bytes) ⌝ }
+    ensures fits { λ r. ⌜ r .len ≤ 96 ⌝ }
 {
     let mut t = put_number(empty(), ordinal);
     t = put_byte(t, b' ');
@@ -48,7 +48,7 @@ pub fn line(ordinal: u32, letter: u8, values: [i32; 6], count: usize) -> Text
 // The first line, with the capacity.
 pub fn header(capacity: u32) -> Text
     ensures text { λ r. ⌜ r ≡ textOf (headerLine capacity) ⌝ }
-    ensures fits { λ r. ⌜ r .len ≤ length (r .bytes) ⌝ }
+    ensures fits { λ r. ⌜ r .len ≤ 96 ⌝ }
 {
     let mut t = put_byte(empty(), b'e');
     t = put_byte(t, b'c');
@@ -62,7 +62,7 @@ pub fn header(capacity: u32) -> Text
 // The last line, with the count and the total renumbered.
 pub fn end_line(count: u32, total: u32) -> Text
     ensures text { λ r. ⌜ r ≡ textOf (endLine count total) ⌝ }
-    ensures fits { λ r. ⌜ r .len ≤ length (r .bytes) ⌝ }
+    ensures fits { λ r. ⌜ r .len ≤ 96 ⌝ }
 {
     let mut t = put_byte(empty(), b'e');
     t = put_byte(t, b'n');

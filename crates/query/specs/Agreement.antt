@@ -1,5 +1,5 @@
 -- Two tables that agree in the rows of a step give that step the same outcome.
-use mathlib.Core.Path.{_≡_, refl, ap, _∙_}
+use mathlib.Core.Path.{_≡_, ap, _∙_}
 use mathlib.Core.Bool.{Bool, true, false, _||_, _&&_, not}
 use Prim.Native.Nat.{ℕ, _<_}
 use lib.Dec.{eqb, ltb, leb}
@@ -14,7 +14,7 @@ use Rattle.rows.specs.Table.{Table, parent, path, depth, upper}
 use Rattle.rows.specs.Spans.{p, reach}
 use Rattle.query.specs.declared.compressed.Side.{Side}
 use Rattle.query.specs.Reading.{isRow, covers}
-use Rattle.query.specs.CompressedStep.{climb, atEntry, pastEntry, pastReach, pastSpan, sideFrom}
+use Rattle.query.specs.CompressedStep.{lostSide, arrive, climb, atEntry, pastEntry, pastReach, pastSpan, sideFrom}
 use Rattle.query.specs.StoredAnswer.{pathRowOf, isOnRow, meeting, branchOf, join}
 
 -- the tables agree in row v
@@ -31,50 +31,50 @@ pub record Both (t u : Table) (s : Side) : Type 0 where
   pub row : Agree t u (s .row)
   pub below : Agree t u (s .below)
 
-module _ {t u : Table} (n : t .count ≡ u .count) where
+module _ {t u : Table} (n : t .count ≡ u .count) (gone : Agree t u none) where
   pub is-row-same : {v : ℕ} → Agree t u v → isRow t v ≡ isRow u v
   unfolding isRow
   is-row-same g = rw (n, g .row)
 
   -- the compressed step
 
-  climb-same : (stay : Bool) (s : Side) → Both t u s → Agree t u (climb t stay s .row) → climb t stay s ≡ climb u stay s
-  unfolding climb
-  climb-same true s h g = refl
-  climb-same false s h g = rw (← column (λ r. r .upper) (h .row), is-row-same g)
+  arrive-same : (v b : ℕ) → Agree t u v → arrive t v b ≡ arrive u v b
+  unfolding arrive
+  arrive-same v b g = rw (is-row-same g)
 
-  climb-both : (stay : Bool) (s : Side) → Both t u s → Agree t u (climb t stay s .row) → Both t u (climb t stay s)
-  unfolding climb
-  climb-both true s h g = h
-  climb-both false s h g = record { row = g; below = h .row }
-
-  at-entry-same : (e z : ℕ) → Agree t u (atEntry t e z .row) → atEntry t e z ≡ atEntry u e z
-  unfolding atEntry
-  at-entry-same e z = go (eqb e none)
+  -- a lost side stands at none
+  arrive-both : (v b : ℕ) → Agree t u v → Agree t u b → Both t u (arrive t v b)
+  unfolding arrive
+  arrive-both v b g h = go (isRow t v)
     where
-      here : Side
-      here = record { row = z; below = z; sound = true }
+      go : (c : Bool) → Both t u (pick c record { row = v; below = b; sound = true } lostSide)
+      go true = record { row = g; below = h }
+      go false = record { row = gone; below = gone }
 
-      entry : Table → Side
-      entry t = record { row = e; below = e; sound = isRow t e }
+  climb-same : (stay : Bool) (s : Side) → Both t u s → Agree t u (upper t (s .row)) → climb t stay s ≡ climb u stay s
+  unfolding climb
+  climb-same stay s h g = ap (λ c. pick (s .sound && not stay) c s) (arrive-same (upper t (s .row)) (s .row) g) ∙ rw (column (λ r. r .upper) (h .row))
 
-      go : (b : Bool) → Agree t u (pick b here (entry t) .row) → pick b here (entry t) ≡ pick b here (entry u)
-      go true g = refl
-      go false g = rw (is-row-same g)
-
-  at-entry-both : (e z : ℕ) → Agree t u (atEntry t e z .row) → Both t u (atEntry t e z)
-  unfolding atEntry
-  at-entry-both e z = go (eqb e none)
+  climb-both : (stay : Bool) (s : Side) → Both t u s → Agree t u (upper t (s .row)) → Both t u (climb t stay s)
+  unfolding climb
+  climb-both stay s h g = go (s .sound && not stay)
     where
-      here : Side
-      here = record { row = z; below = z; sound = true }
+      go : (b : Bool) → Both t u (pick b (arrive t (upper t (s .row)) (s .row)) s)
+      go true = arrive-both (upper t (s .row)) (s .row) g (h .row)
+      go false = h
 
-      entry : Side
-      entry = record { row = e; below = e; sound = isRow t e }
+  -- where no entry is none, it is met
+  at-entry-same : (e z : ℕ) → Agree t u e → atEntry t e z ≡ atEntry u e z
+  unfolding atEntry
+  at-entry-same e z g = rw (arrive-same e e g)
 
-      go : (b : Bool) → Agree t u (pick b here entry .row) → Both t u (pick b here entry)
-      go true g = record { row = g; below = g }
-      go false g = record { row = g; below = g }
+  at-entry-both : (e z : ℕ) → Agree t u z → Agree t u e → Both t u (atEntry t e z)
+  unfolding atEntry
+  at-entry-both e z h g = go (eqb e none)
+    where
+      go : (b : Bool) → Both t u (pick b record { row = z; below = z; sound = true } (arrive t e e))
+      go true = record { row = h; below = h }
+      go false = arrive-both e e g g
 
   reach-same : {v : ℕ} (d : ℕ) → Agree t u v → ltb d (reach t v) ≡ ltb d (reach u v)
   reach-same d g = column (λ r. ltb d (reachOf (r .«set_size»))) g
@@ -83,16 +83,16 @@ module _ {t u : Table} (n : t .count ≡ u .count) where
   unfolding covers
   covers-same o g = column (λ r. leb (pOf (r .start) (r .«set_size»)) o && ltb o (qOf (r .start) (r .«set_size»))) g
 
-  -- the step of one side, by the rows that it meets
-  module _ (e d o z : ℕ) (g0 : Agree t u (atEntry t e z .row)) (g1 : Agree t u (pastEntry t e z .row))
-      (g2 : Agree t u (pastReach t d (pastEntry t e z) .row)) (g3 : Agree t u (sideFrom t e d o z .row)) where
+  -- the step of one side, by the rows that it may meet
+  module _ (e d o z : ℕ) (gz : Agree t u z) (g0 : Agree t u e) (g1 : Agree t u (upper t (atEntry t e z .row)))
+      (g2 : Agree t u (upper t (pastEntry t e z .row))) (g3 : Agree t u (upper t (pastReach t d (pastEntry t e z) .row))) where
     entry-both : Both t u (pastEntry t e z)
     unfolding pastEntry
-    entry-both = climb-both (eqb e none) (atEntry t e z) (at-entry-both e z g0) g1
+    entry-both = climb-both (eqb e none) (atEntry t e z) (at-entry-both e z gz g0) g1
 
     entry-same : pastEntry t e z ≡ pastEntry u e z
     unfolding pastEntry
-    entry-same = climb-same (eqb e none) (atEntry t e z) (at-entry-both e z g0) g1 ∙ ap (climb u (eqb e none)) (at-entry-same e z g0)
+    entry-same = climb-same (eqb e none) (atEntry t e z) (at-entry-both e z gz g0) g1 ∙ ap (climb u (eqb e none)) (at-entry-same e z g0)
 
     past-reach-both : Both t u (pastReach t d (pastEntry t e z))
     unfolding pastReach

@@ -1,23 +1,22 @@
 -- On every table the row that a sound answer names was read: it is in use and sound.
-use mathlib.Core.Path.{_≡_, refl}
+use mathlib.Core.Path.{_≡_, refl, sym, _∙_}
 use mathlib.Core.Bool.{Bool, true, false, _||_, _&&_, not}
 use Prim.Native.Nat.{ℕ}
 use native.Mathlib.Omega.{arith}
-use lib.Dec.{eqb, leb}
+use lib.Dec.{eqb, ltb, leb}
 use Rattle.laws.specs.Test.{pick, says-get}
 use Rattle.tree_laws.specs.Ancestor.{none}
 use Rattle.tree_laws.specs.Compressed.{isApex}
 use Rattle.tree_laws.specs.StoredFromCompressed.{pathRow, higher}
-use Rattle.tree_laws.specs.PlainFromStored.{plainNca}
 use Rattle.rows.specs.Table.{Table, parent, path, depth, upper}
-use Rattle.rows.specs.Spans.{p}
+use Rattle.rows.specs.Spans.{p, reach}
 use Rattle.query.specs.declared.compressed.Side.{Side}
 use Rattle.query.specs.declared.stored.Fork.{Fork}
-use Rattle.query.specs.Reading.{IsRow, isRow}
+use Rattle.query.specs.Reading.{IsRow, isRow, covers}
 use Rattle.query.specs.ReadingLaws.{says-row}
-use Rattle.query.specs.CompressedStep.{climb, atEntry, pastEntry, pastReach, pastSpan, sideFrom}
-use Rattle.query.specs.StoredAnswer.{pathRowOf, isOnRow, forked, meeting, join, lost, alone, storedFrom, storedAnswer}
-use Rattle.query.specs.PlainAnswer.{Asked, plainFrom, plainAnswer}
+use Rattle.query.specs.CompressedStep.{lostSide, arrive, climb, atEntry, pastEntry, pastReach, pastSpan, sideFrom}
+use Rattle.query.specs.StoredAnswer.{Asked, pathRowOf, isOnRow, forked, meeting, branchOf, join, lost, alone, storedFrom, storedAnswer}
+use Rattle.query.specs.PlainAnswer.{isAbove, leadsOn, lowerX, lowerY, lowered, areRows, plainFrom, plainAnswer}
 
 -- two tests that both hold
 both : (a b : Bool) → a && b ≡ true → (a ≡ true) × (b ≡ true)
@@ -33,12 +32,35 @@ module _ (t : Table) where
   is-row : (v : ℕ) → isRow t v ≡ true → IsRow t v
   is-row v e = says-get (says-row t v) e
 
+  pub arrive-rows : (v b : ℕ) → IsRow t b → arrive t v b .sound ≡ true → SideRows t (arrive t v b)
+  unfolding arrive
+  arrive-rows v b h = go (isRow t v) refl
+    where
+      there : Side
+      there = record { row = v; below = b; sound = true }
+
+      go : (c : Bool) → isRow t v ≡ c → pick c there lostSide .sound ≡ true → SideRows t (pick c there lostSide)
+      go true e i = record { row = is-row v e; below = h }
+      go false e i = let z : _≡_ {A = ℕ} 0 1 = cc in absurd (omega arith)
+
+  -- a row is met from itself
+  pub arrive-row : (v : ℕ) → arrive t v v .sound ≡ true → IsRow t v
+  unfolding arrive
+  arrive-row v = go (isRow t v) refl
+    where
+      go : (c : Bool) → isRow t v ≡ c → pick c record { row = v; below = v; sound = true } lostSide .sound ≡ true → IsRow t v
+      go true e i = is-row v e
+      go false e i = let z : _≡_ {A = ℕ} 0 1 = cc in absurd (omega arith)
+
   climb-rows : (stay : Bool) (s : Side) → (s .sound ≡ true → SideRows t s) → climb t stay s .sound ≡ true → SideRows t (climb t stay s)
   unfolding climb
-  climb-rows true s h e = h e
-  climb-rows false s h e =
-      let z = both (s .sound) (isRow t (upper t (s .row))) e in
-      record { row = is-row (upper t (s .row)) (z .1); below = h (z .0) .row }
+  climb-rows stay s h = go (s .sound) stay refl
+    where
+      go : (b c : Bool) → s .sound ≡ b → pick (b && not c) (arrive t (upper t (s .row)) (s .row)) s .sound ≡ true
+          → SideRows t (pick (b && not c) (arrive t (upper t (s .row)) (s .row)) s)
+      go true true i e = h i
+      go true false i e = arrive-rows (upper t (s .row)) (s .row) (h i .row) e
+      go false c i e = h e
 
   at-entry-rows : (e z : ℕ) → IsRow t z → atEntry t e z .sound ≡ true → SideRows t (atEntry t e z)
   unfolding atEntry
@@ -47,26 +69,24 @@ module _ (t : Table) where
       here : Side
       here = record { row = z; below = z; sound = true }
 
-      entry : Side
-      entry = record { row = e; below = e; sound = isRow t e }
-
-      go : (b : Bool) → pick b here entry .sound ≡ true → SideRows t (pick b here entry)
+      go : (b : Bool) → pick b here (arrive t e e) .sound ≡ true → SideRows t (pick b here (arrive t e e))
       go true i = record { row = h; below = h }
-      go false i = record { row = is-row e i; below = is-row e i }
+      go false i = arrive-rows e e (arrive-row e i) i
+
+  -- the rows of a side, after each of its steps
+  pub past-entry-rows : (e z : ℕ) → IsRow t z → pastEntry t e z .sound ≡ true → SideRows t (pastEntry t e z)
+  unfolding pastEntry
+  past-entry-rows e z h = climb-rows (eqb e none) (atEntry t e z) (at-entry-rows e z h)
+
+  pub past-reach-rows : (e d z : ℕ) → IsRow t z → pastReach t d (pastEntry t e z) .sound ≡ true → SideRows t (pastReach t d (pastEntry t e z))
+  unfolding pastReach
+  past-reach-rows e d z h = climb-rows (ltb d (reach t (pastEntry t e z .row))) (pastEntry t e z) (past-entry-rows e z h)
 
   pub side-rows : (e d o z : ℕ) → IsRow t z → sideFrom t e d o z .sound ≡ true → SideRows t (sideFrom t e d o z)
-  unfolding sideFrom pastSpan pastReach pastEntry
-  side-rows e d o z h = climb-rows _ _ (climb-rows _ _ (climb-rows _ _ (at-entry-rows e z h)))
+  unfolding sideFrom pastSpan
+  side-rows e d o z h = climb-rows (covers t (pastReach t d (pastEntry t e z) .row) o) (pastReach t d (pastEntry t e z)) (past-reach-rows e d z h)
 
-  -- a sound row: that of a sound side, or else r
-  pub either-row : (e d o z r : ℕ) {s : Side} {k : ℕ} → s ≡ sideFrom t e d o z → k ≡ pick (s .sound) (s .row) r → IsRow t z → IsRow t r → IsRow t k
-  either-row e d o z r {s} {k} h i hz hr = rw (i, h) (go (sideFrom t e d o z .sound) refl)
-    where
-      go : (b : Bool) → sideFrom t e d o z .sound ≡ b → IsRow t (pick b (sideFrom t e d o z .row) r)
-      go true j = side-rows e d o z hz j .row
-      go false j = hr
-
-  path-row-row : (s : Side) → SideRows t s → isOnRow t s ≡ true → IsRow t (pathRowOf t s)
+  pub path-row-row : (s : Side) → SideRows t s → isOnRow t s ≡ true → IsRow t (pathRowOf t s)
   unfolding isOnRow pathRow
   path-row-row s h = go (eqb (s .below) (s .row)) (isApex (parent t) (path t) (s .below))
     where
@@ -75,20 +95,28 @@ module _ (t : Table) where
       go false true e = is-row (parent t (s .below)) e
       go false false e = h .below
 
-  pick-row : (b : Bool) {u v : ℕ} → IsRow t u → IsRow t v → IsRow t (pick b u v)
+  pub pick-row : (b : Bool) {u v : ℕ} → IsRow t u → IsRow t v → IsRow t (pick b u v)
   pick-row true h k = h
   pick-row false h k = k
 
-  pub join-row : (c k : Side) → (c .sound ≡ true → SideRows t c) → (k .sound ≡ true → SideRows t k) → join t c k .sound ≡ true → IsRow t (join t c k .nca)
-  unfolding join forked meeting higher
-  join-row c k f g e =
-      let named = both _ _ e .0 in
-      let all = both _ _ named .0 in
-      let right = both _ _ all in
-      let left = both _ _ (right .0) in
-      let sides = both (c .sound) (k .sound) (left .0) in
-      pick-row (leb (depth t (pathRowOf t c)) (depth t (pathRowOf t k)))
-      (path-row-row c (f (sides .0)) (left .1)) (path-row-row k (g (sides .1)) (right .1))
+  pub meeting-row : (c k : Side) → SideRows t c → SideRows t k → isOnRow t c ≡ true → isOnRow t k ≡ true → IsRow t (meeting t c k)
+  unfolding meeting higher
+  meeting-row c k f g i j = pick-row (leb (depth t (pathRowOf t c)) (depth t (pathRowOf t k))) (path-row-row c f i) (path-row-row k g j)
+
+  join-row : (c k : Side) → (c .sound ≡ true → SideRows t c) → (k .sound ≡ true → SideRows t k) → join t c k .sound ≡ true → IsRow t (join t c k .nca)
+  unfolding join forked
+  join-row c k f g = go (c .sound) (k .sound) (isOnRow t c) (isOnRow t k) refl refl refl refl
+    where
+      met : Fork
+      met = forked (meeting t c k) (branchOf t c k c) (branchOf t c k k) true
+
+      go : (a b d e : Bool) → c .sound ≡ a → k .sound ≡ b → isOnRow t c ≡ d → isOnRow t k ≡ e
+          → pick (a && b && d && e) met lost .sound ≡ true → IsRow t (pick (a && b && d && e) met lost .nca)
+      go true true true true h i j l m = meeting-row c k (f h) (g i) j l
+      go true true true false h i j l m = let z : _≡_ {A = ℕ} 0 1 = cc in absurd (omega arith)
+      go true true false e h i j l m = let z : _≡_ {A = ℕ} 0 1 = cc in absurd (omega arith)
+      go true false d e h i j l m = let z : _≡_ {A = ℕ} 0 1 = cc in absurd (omega arith)
+      go false b d e h i j l m = let z : _≡_ {A = ℕ} 0 1 = cc in absurd (omega arith)
 
   pub stored-row : (m n x y : ℕ) → IsRow t x → IsRow t y → storedFrom t m n x y .sound ≡ true → IsRow t (storedFrom t m n x y .nca)
   unfolding storedFrom
@@ -100,12 +128,51 @@ module _ (t : Table) where
       go false true f j e = let z : _≡_ {A = ℕ} 0 1 = cc in absurd (omega arith)
       go false false f j e = j e
 
+  pub answer-row : (x y : ℕ) → Asked t x y → storedAnswer t x y .sound ≡ true → IsRow t (storedAnswer t x y .nca)
+  answer-row x y h = stored-row (p t x) (p t y) x y (h .left) (h .right)
+
+  -- the tests of a plain answer lead to a stored one
+  lowered-row : (x y : ℕ) (f : Fork) → Asked t x y → IsRow t (t .root) → IsRow t (f .nca) → lowered t x y f .sound ≡ true → IsRow t (lowered t x y f .nca)
+  unfolding lowered lowerX lowerY forked
+  lowered-row x y f h r i = go (leadsOn t (f .nca) (f .«to_x»)) (leadsOn t (f .nca) (f .«to_y»))
+    where
+      result : Bool → Bool → Fork
+      result a b = pick a (lowerX t (storedAnswer t x (t .root))) (pick b (lowerY t (storedAnswer t y (t .root))) f)
+
+      go : (a b : Bool) → result a b .sound ≡ true → IsRow t (result a b .nca)
+      go true b e = answer-row x (t .root) record { left = h .left; right = r } (both _ _ (both _ _ e .0) .0)
+      go false true e = answer-row y (t .root) record { left = h .right; right = r } (both _ _ (both _ _ e .0) .0)
+      go false false e = i
+
+  -- the rows of the tests of a plain answer
+  pub record Rows (f : Fork) : Type 0 where
+    pub root : IsRow t (t .root)
+    pub left : IsRow t (f .«to_x»)
+    pub right : IsRow t (f .«to_y»)
+
+  pub are-rows : (f : Fork) → areRows t f ≡ true → Rows f
+  unfolding areRows
+  are-rows f e =
+      let h = both (isRow t (t .root) && isRow t (f .«to_x»)) (isRow t (f .«to_y»)) e in
+      let k = both (isRow t (t .root)) (isRow t (f .«to_x»)) (h .0) in
+      record { root = is-row (t .root) (k .0); left = is-row (f .«to_x») (k .1); right = is-row (f .«to_y») (h .1) }
+
   pub plain-row : (x y : ℕ) → Asked t x y → plainAnswer t x y .sound ≡ true → IsRow t (plainAnswer t x y .nca)
-  unfolding plainAnswer plainFrom forked plainNca
-  plain-row x y h e =
-      let sounds = both _ _ (both _ _ (both _ _ e .0) .0) in
-      let first = both _ _ (sounds .0) in
-      let xr = storedAnswer t x (t .root) in
-      pick-row (eqb (xr .nca) (storedAnswer t y (t .root) .nca)) (stored-row _ _ x y (h .left) (h .right) (first .0))
-      (pick-row (eqb (storedAnswer t x y .nca) (xr .nca)) (stored-row _ _ y (t .root) (h .right) (h .root) (sounds .1))
-      (stored-row _ _ x (t .root) (h .left) (h .root) (first .1)))
+  unfolding plainAnswer plainFrom
+  plain-row x y h = go (storedAnswer t x y) (answer-row x y h)
+    where
+      result : Bool → Bool → Fork → Fork
+      result a b f = pick a (pick b (lowered t x y f) lost) f
+
+      pass : (a b : Bool) (f : Fork) → areRows t f ≡ b → IsRow t (f .nca) → result a b f .sound ≡ true → IsRow t (result a b f .nca)
+      pass true true f r i e = lowered-row x y f h (are-rows f r .root) i e
+      pass true false f r i e = let z : _≡_ {A = ℕ} 0 1 = cc in absurd (omega arith)
+      pass false b f r i e = i
+
+      sound-first : (s a b : Bool) (f : Fork) → f .sound ≡ s → result (s && a) b f .sound ≡ true → s ≡ true
+      sound-first true a b f i e = refl
+      sound-first false a b f i e = sym i ∙ e
+
+      go : (f : Fork) → (f .sound ≡ true → IsRow t (f .nca)) → result (f .sound && isAbove t (f .nca)) (areRows t f) f .sound ≡ true
+          → IsRow t (result (f .sound && isAbove t (f .nca)) (areRows t f) f .nca)
+      go f i e = pass (f .sound && isAbove t (f .nca)) (areRows t f) f refl (i (sound-first (f .sound) (isAbove t (f .nca)) (areRows t f) f refl e)) e

@@ -6,11 +6,10 @@ use Prim.Native.Nat.{ℕ, suc, _+_, _-_, _*_, _≤_, _<_}
 use native.Mathlib.Decide.{decLt}
 use native.Mathlib.Omega.{arith}
 use lib.Dec.{eqb, leb}
-use lib.IntN.{pos}
+use lib.IntN.{pos, _+ℤ_}
 use lib.ListN.{length, getD, List·getD-eq-default}
 use Rattle.laws.specs.Test.{pick}
 use Rattle.tree_laws.specs.Ancestor.{none}
-use Rattle.tree_laws.specs.PlainFromStored.{plainNca, plainToX, plainToY}
 use Rattle.span.specs.Constants.{limit}
 use Rattle.span.specs.Numbers.{pOf}
 use Rattle.span.specs.Rank.{rankOf}
@@ -23,18 +22,21 @@ use Rattle.rows.specs.Layout.{entryStride}
 use Rattle.rows.specs.Row.{Parts, rowAt, levelAt, entryAt}
 use Rattle.rows.specs.Capacity.{Fits, capacityOf}
 use Rattle.rows.specs.CapacityLaws.{capacity-fits}
-use Rattle.rows.specs.Table.{Table, tableOf, parent}
+use Rattle.rows.specs.Table.{Table, tableOf}
 use Rattle.rows.specs.Spans.{p}
+use Rattle.query.specs.declared.compressed.Side.{Side}
 use Rattle.query.specs.declared.stored.Fork.{Fork}
 use Rattle.query.specs.Reading.{IsRow, isRow}
 use Rattle.query.specs.CompressedStep.{sideFrom, compressedSide}
-use Rattle.query.specs.StoredAnswer.{between, join, alone, lost, storedFrom, storedAnswer, forked}
-use Rattle.query.specs.PlainAnswer.{Asked, plainFrom, plainAnswer}
+use Rattle.query.specs.Line.{eqZ, isLineLevel}
+use Rattle.query.specs.StoredAnswer.{Asked, isOnRow, meeting, branchOf, between, join, alone, lost, storedFrom, storedAnswer, forked}
+use Rattle.query.specs.PlainAnswer.{isAbove, leadsOn, lowerX, lowerY, lowered, areRows, plainFrom, plainAnswer}
 use Rattle.query.specs.Outcome.{Outcome, refused}
 use Rattle.query.specs.Question.{valuesOf, isServed, served, asked, question}
+use Rattle.query.specs.AnswerRows.{are-rows}
 use Rattle.query.specs.QuestionLaws.{tests-asked}
 use Rattle.query.specs.Agreement.{Agree, Both, column, is-row-same, side-both, side-same, meeting-agree, join-same}
-use Rattle.query.specs.FewRows.{SameRow, DrawsOn, sideRows, storedRows, rowsRead, most}
+use Rattle.query.specs.FewRows.{SameRow, DrawsOn, sideRows, storedRows, onward, lowerRows, rowsRead, most}
 
 -- what holds of every number of a list
 abbrev Every : (ℕ → Type 0) → List ℕ → Type 0
@@ -65,21 +67,21 @@ between-le {a} {b} {l} h k = go (leb a b)
 row-p : {t : Table} {v : ℕ} → IsRow t v → p t v ≤ limit
 row-p h = omega (arith, h .sound .end)
 
-module _ {t u : Table} (n : t .count ≡ u .count) where
+module _ {t u : Table} (n : t .count ≡ u .count) (gone : Agree t u none) where
   p-same : {v : ℕ} → Agree t u v → p t v ≡ p u v
   p-same g = column (λ r. pOf (r .start) (r .«set_size»)) g
 
   -- one side
   module _ (d o z : ℕ) (i : rankOf d < entryStride) (g : Agree t u z) (h : Every (Agree t u) (sideRows t (t .entry z (rankOf d)) d o z)) where
     compressed-both : Both t u (compressedSide t d o z)
-    compressed-both = side-both n (t .entry z (rankOf d)) d o z (h .0) (h .1 .0) (h .1 .1 .0) (h .1 .1 .1 .0)
+    compressed-both = side-both n gone (t .entry z (rankOf d)) d o z g (h .0) (h .1 .0) (h .1 .1 .0) (h .1 .1 .1 .0)
 
     compressed-same : compressedSide t d o z ≡ compressedSide u d o z
-    compressed-same = side-same n (t .entry z (rankOf d)) d o z (h .0) (h .1 .0) (h .1 .1 .0) (h .1 .1 .1 .0)
+    compressed-same = side-same n gone (t .entry z (rankOf d)) d o z g (h .0) (h .1 .0) (h .1 .1 .0) (h .1 .1 .1 .0)
         ∙ ap (λ e. sideFrom u e d o z) (g .entry (rankOf d) i)
 
   -- one stored answer
-  module _ (gone : Agree t u none) (x y : ℕ) (hx : IsRow t x) (hy : IsRow t y) (gx : Agree t u x) (gy : Agree t u y) (h : Every (Agree t u) (storedRows t x y)) where
+  module _ (x y : ℕ) (hx : IsRow t x) (hy : IsRow t y) (gx : Agree t u x) (gy : Agree t u y) (h : Every (Agree t u) (storedRows t x y)) where
     apart : ℕ
     apart = between (p t x) (p t y)
 
@@ -98,14 +100,25 @@ module _ {t u : Table} (n : t .count ≡ u .count) where
     sides-same : join t (compressedSide t apart (p t y) x) (compressedSide t apart (p t x) y)
         ≡ join u (compressedSide u apart (p t y) x) (compressedSide u apart (p t x) y)
     sides-same =
-        join-same n _ _ (compressed-both apart (p t y) x small gx left) (compressed-both apart (p t x) y small gy right) (left .1 .1 .1 .1 .0) (right .1 .1 .1 .1 .0)
+        join-same n gone _ _ (compressed-both apart (p t y) x small gx left) (compressed-both apart (p t x) y small gy right) (left .1 .1 .1 .1 .0) (right .1 .1 .1 .1 .0)
         ∙ ap (λ c. join u c (compressedSide t apart (p t x) y)) (compressed-same apart (p t y) x small gx left)
         ∙ ap (λ k. join u (compressedSide u apart (p t y) x) k) (compressed-same apart (p t x) y small gy right)
 
     sides-agree : Agree t u (join t (compressedSide t apart (p t y) x) (compressedSide t apart (p t x) y) .nca)
     unfolding join forked
-    sides-agree =
-        meeting-agree n _ _ (compressed-both apart (p t y) x small gx left) (compressed-both apart (p t x) y small gy right) (left .1 .1 .1 .1 .0) (right .1 .1 .1 .1 .0)
+    sides-agree = go
+        (cx .sound && cy .sound && isOnRow t cx && isOnRow t cy)
+        (meeting-agree n gone cx cy (compressed-both apart (p t y) x small gx left) (compressed-both apart (p t x) y small gy right) (left .1 .1 .1 .1 .0) (right .1 .1 .1 .1 .0))
+      where
+        cx : Side
+        cx = compressedSide t apart (p t y) x
+
+        cy : Side
+        cy = compressedSide t apart (p t x) y
+
+        go : (b : Bool) → Agree t u (meeting t cx cy) → Agree t u (pick b (forked (meeting t cx cy) (branchOf t cx cy cx) (branchOf t cx cy cy) true) lost .nca)
+        go true g = g
+        go false g = gone
 
     stored-same : storedAnswer t x y ≡ storedAnswer u x y
     unfolding storedFrom apart
@@ -124,23 +137,88 @@ module _ {t u : Table} (n : t .count ≡ u .count) where
         go false false f g = g
 
   -- the plain answer
-  plain-from-same : (f g h : Fork) → Agree t u (g .nca) → Agree t u (h .nca) → plainFrom t f g h ≡ plainFrom u f g h
-  unfolding plainFrom plainToX plainToY
-  plain-from-same f g h i j = rw (column (λ r. r .parent) i, column (λ r. r .parent) j)
 
-  plain-from-agree : (f g h : Fork) → Agree t u (f .nca) → Agree t u (g .nca) → Agree t u (h .nca) → Agree t u (plainFrom t f g h .nca)
-  unfolding plainFrom plainNca forked
-  plain-from-agree f g h i j k = go (eqb (g .nca) (h .nca)) (eqb (f .nca) (g .nca))
-    where
-      go : (a b : Bool) → Agree t u (pick a (f .nca) (pick b (h .nca) (g .nca)))
-      go true b = i
-      go false true = k
-      go false false = j
+  line-same : {v : ℕ} → Agree t u v → isLineLevel t v ≡ isLineLevel u v
+  line-same g = column (λ r. eqZ (r .level +ℤ pos (r .depth)) (pos 0)) g
+
+  above-same : {a : ℕ} → t .root ≡ u .root → Agree t u a → isAbove t a ≡ isAbove u a
+  unfolding isAbove
+  above-same r g = rw (line-same g, r)
+
+  leads-same : (a : ℕ) {v : ℕ} → Agree t u v → leadsOn t a v ≡ leadsOn u a v
+  unfolding leadsOn
+  leads-same a g = rw (line-same g)
+
+  lower-x-same : (f : Fork) → Agree t u (f .nca) → lowerX t f ≡ lowerX u f
+  unfolding lowerX
+  lower-x-same f g = rw (column (λ r. r .parent) g)
+
+  lower-y-same : (f : Fork) → Agree t u (f .nca) → lowerY t f ≡ lowerY u f
+  unfolding lowerY
+  lower-y-same f g = rw (column (λ r. r .parent) g)
+
+  -- the second stored answer, for z and the root
+  module _ (r : t .root ≡ u .root) (z : ℕ) (hz : IsRow t z) (hr : IsRow t (t .root)) (gz : Agree t u z) (gr : Agree t u (t .root))
+      (h : Every (Agree t u) (storedRows t z (t .root))) where
+    second-agree : Agree t u (storedAnswer t z (t .root) .nca)
+    second-agree = stored-agree z (t .root) hz hr gz gr h
+
+    second-same : storedAnswer t z (t .root) ≡ storedAnswer u z (u .root)
+    second-same = stored-same z (t .root) hz hr gz gr h ∙ ap (storedAnswer u z) r
+
+  -- both outcomes of a plain answer, where the line goes on below the stored answer f
+  module _ (r : t .root ≡ u .root) (x y : ℕ) (k : Asked t x y) (gx : Agree t u x) (gy : Agree t u y) (gr : Agree t u (t .root))
+      (f : Fork) (ga : Agree t u (f .nca)) (gu : Agree t u (f .«to_x»)) (gv : Agree t u (f .«to_y»))
+      (h : Every (Agree t u) (storedRows t (onward t x y f) (t .root))) where
+    tested : Table → Bool → Bool → Fork
+    tested s a b = pick a (lowerX s (storedAnswer s x (s .root))) (pick b (lowerY s (storedAnswer s y (s .root))) f)
+
+    lowered-agree : IsRow t (t .root) → Agree t u (lowered t x y f .nca)
+    unfolding lowered lowerX lowerY forked tested
+    lowered-agree hr = go (leadsOn t (f .nca) (f .«to_x»)) (leadsOn t (f .nca) (f .«to_y»)) h
+      where
+        go : (a b : Bool) → Every (Agree t u) (storedRows t (pick a x y) (t .root)) → Agree t u (tested t a b .nca)
+        go true b i = second-agree r x (k .left) hr gx gr i
+        go false true i = second-agree r y (k .right) hr gy gr i
+        go false false i = ga
+
+    lowered-same : IsRow t (t .root) → lowered t x y f ≡ lowered u x y f
+    unfolding lowered tested
+    lowered-same hr =
+        go (leadsOn t (f .nca) (f .«to_x»)) (leadsOn t (f .nca) (f .«to_y»)) h
+        ∙ ap (λ a. tested u a (leadsOn t (f .nca) (f .«to_y»))) (leads-same (f .nca) gu)
+        ∙ ap (tested u (leadsOn u (f .nca) (f .«to_x»))) (leads-same (f .nca) gv)
+      where
+        go : (a b : Bool) → Every (Agree t u) (storedRows t (pick a x y) (t .root)) → tested t a b ≡ tested u a b
+        go true b i = lower-x-same _ (second-agree r x (k .left) hr gx gr i) ∙ ap (lowerX u) (second-same r x (k .left) hr gx gr i)
+        go false true i = lower-y-same _ (second-agree r y (k .right) hr gy gr i) ∙ ap (lowerY u) (second-same r y (k .right) hr gy gr i)
+        go false false i = refl
+
+    plain-from-agree : Agree t u (plainFrom t x y f .nca)
+    unfolding plainFrom
+    plain-from-agree = go (f .sound && isAbove t (f .nca)) (areRows t f) refl
+      where
+        go : (a b : Bool) → areRows t f ≡ b → Agree t u (pick a (pick b (lowered t x y f) lost) f .nca)
+        go true true e = lowered-agree (are-rows t f e .root)
+        go true false e = gone
+        go false b e = ga
+
+    rows-same : areRows t f ≡ areRows u f
+    unfolding areRows
+    rows-same = rw (is-row-same n gone gv, is-row-same n gone gu, is-row-same n gone gr, r)
+
+    plain-from-same : plainFrom t x y f ≡ plainFrom u x y f
+    unfolding plainFrom
+    plain-from-same = ap (λ g. pick (f .sound && isAbove t (f .nca)) g f) (go (areRows t f) refl) ∙ rw (above-same r ga, rows-same)
+      where
+        go : (b : Bool) → areRows t f ≡ b → pick b (lowered t x y f) lost ≡ pick b (lowered u x y f) lost
+        go true e = lowered-same (are-rows t f e .root)
+        go false e = refl
 
   values-same : (x y : ℕ) (f : Fork) → Agree t u x → Agree t u y → Agree t u (f .nca) → valuesOf t x y f ≡ valuesOf u x y f
   values-same x y f i j k = rw (column (λ r. r .level) i, column (λ r. r .level) j, column (λ r. r .level) k, column (λ r. r .label) k)
 
-  module _ (gone : Agree t u none) (r : t .root ≡ u .root) (x y : ℕ) (h : Every (Agree t u) (rowsRead t x y)) where
+  module _ (r : t .root ≡ u .root) (x y : ℕ) (h : Every (Agree t u) (rowsRead t x y)) where
     gx : Agree t u x
     gx = h .0
 
@@ -151,58 +229,45 @@ module _ {t u : Table} (n : t .count ≡ u .count) where
     gr = h .1 .1 .0
 
     xy : Every (Agree t u) (storedRows t x y)
-    xy = every-left (Agree t u) (storedRows t x y) (storedRows t x (t .root) ++ storedRows t y (t .root)) (h .1 .1 .1)
+    xy = every-left (Agree t u) (storedRows t x y) (lowerRows t x y (storedAnswer t x y)) (h .1 .1 .1)
 
-    rest : Every (Agree t u) (storedRows t x (t .root) ++ storedRows t y (t .root))
-    rest = every-right (Agree t u) (storedRows t x y) (storedRows t x (t .root) ++ storedRows t y (t .root)) (h .1 .1 .1)
-
-    xr : Every (Agree t u) (storedRows t x (t .root))
-    xr = every-left (Agree t u) (storedRows t x (t .root)) (storedRows t y (t .root)) rest
-
-    yr : Every (Agree t u) (storedRows t y (t .root))
-    yr = every-right (Agree t u) (storedRows t x (t .root)) (storedRows t y (t .root)) rest
+    lower : Every (Agree t u) (lowerRows t x y (storedAnswer t x y))
+    lower = every-right (Agree t u) (storedRows t x y) (lowerRows t x y (storedAnswer t x y)) (h .1 .1 .1)
 
     module _ (k : Asked t x y) where
       plain-agree : Agree t u (plainAnswer t x y .nca)
       unfolding plainAnswer
-      plain-agree = plain-from-agree _ _ _
-          (stored-agree gone x y (k .left) (k .right) gx gy xy)
-          (stored-agree gone x (t .root) (k .left) (k .root) gx gr xr)
-          (stored-agree gone y (t .root) (k .right) (k .root) gy gr yr)
+      plain-agree =
+          plain-from-agree r x y k gx gy gr (storedAnswer t x y) (stored-agree x y (k .left) (k .right) gx gy xy) (lower .0) (lower .1 .0) (lower .1 .1)
 
       plain-same : plainAnswer t x y ≡ plainAnswer u x y
       unfolding plainAnswer
       plain-same =
-          plain-from-same (storedAnswer t x y) (storedAnswer t x (t .root)) (storedAnswer t y (t .root))
-          (stored-agree gone x (t .root) (k .left) (k .root) gx gr xr) (stored-agree gone y (t .root) (k .right) (k .root) gy gr yr)
-          ∙ ap (λ f. plainFrom u f (storedAnswer t x (t .root)) (storedAnswer t y (t .root))) (stored-same gone x y (k .left) (k .right) gx gy xy)
-          ∙ ap (λ f. plainFrom u (storedAnswer u x y) f (storedAnswer t y (t .root))) (stored-same gone x (t .root) (k .left) (k .root) gx gr xr)
-          ∙ ap (λ f. plainFrom u (storedAnswer u x y) (storedAnswer u x (t .root)) f) (stored-same gone y (t .root) (k .right) (k .root) gy gr yr)
-          ∙ ap (λ z. plainFrom u (storedAnswer u x y) (storedAnswer u x z) (storedAnswer u y z)) r
+          plain-from-same r x y k gx gy gr (storedAnswer t x y) (stored-agree x y (k .left) (k .right) gx gy xy) (lower .0) (lower .1 .0) (lower .1 .1)
+          ∙ ap (plainFrom u x y) (stored-same x y (k .left) (k .right) gx gy xy)
 
     -- the outcome in a table of this count and root
     pub served-same : served t x y ≡ served u x y
     unfolding served isServed
-    served-same = go (isRow t x) (isRow t y) (isRow t (t .root)) refl refl refl
+    served-same = go (isRow t x) (isRow t y) refl refl
       where
-        here : Bool → Bool → Bool → Outcome
-        here a b c = pick (a && b && c && plainAnswer t x y .sound) (valuesOf t x y (plainAnswer t x y)) (refused Corrupt)
+        here : Bool → Bool → Outcome
+        here a b = pick (a && b && plainAnswer t x y .sound) (valuesOf t x y (plainAnswer t x y)) (refused Corrupt)
 
-        other : Bool → Bool → Bool → Outcome
-        other a b c = pick (a && b && c && plainAnswer u x y .sound) (valuesOf u x y (plainAnswer u x y)) (refused Corrupt)
+        other : Bool → Bool → Outcome
+        other a b = pick (a && b && plainAnswer u x y .sound) (valuesOf u x y (plainAnswer u x y)) (refused Corrupt)
 
-        back : {a b c : Bool} → isRow t x ≡ a → isRow t y ≡ b → isRow t (t .root) ≡ c → other a b c ≡ other (isRow u x) (isRow u y) (isRow u (u .root))
-        back i j k = rw (← i, ← j, ← k, is-row-same n gx, is-row-same n gy, is-row-same n gr, r)
+        back : {a b : Bool} → isRow t x ≡ a → isRow t y ≡ b → other a b ≡ other (isRow u x) (isRow u y)
+        back i j = rw (← i, ← j, is-row-same n gone gx, is-row-same n gone gy)
 
-        go : (a b c : Bool) → isRow t x ≡ a → isRow t y ≡ b → isRow t (t .root) ≡ c → here a b c ≡ other (isRow u x) (isRow u y) (isRow u (u .root))
-        go false b c i j k = back i j k
-        go true false c i j k = back i j k
-        go true true false i j k = back i j k
-        go true true true i j k =
-            let q = tests-asked t x y i j k in
+        go : (a b : Bool) → isRow t x ≡ a → isRow t y ≡ b → here a b ≡ other (isRow u x) (isRow u y)
+        go false b i j = back i j
+        go true false i j = back i j
+        go true true i j =
+            let q = tests-asked t x y i j in
             ap (λ o. pick (plainAnswer t x y .sound) o (refused Corrupt)) (values-same x y (plainAnswer t x y) gx gy (plain-agree q))
             ∙ ap (λ f. pick (f .sound) (valuesOf u x y f) (refused Corrupt)) (plain-same q)
-            ∙ back i j k
+            ∙ back i j
 
 -- past the capacity all parts are alike
 nothing : Parts
@@ -259,7 +324,7 @@ decided {c} a b f g s x y h = rw (
     agree : (v : ℕ) → SameRow a b v → Agree (tableOf a (s .count) (s .root)) (tableOf b (s .count) (s .root)) v
     agree v z = record { row = z .row; entry = z .entry }
 
--- a question draws on at most 33 rows
+-- a question draws on at most 25 rows
 pub question-few-rows : {c : ℕ} (a : Parts) → Fits c a → (s : State) (x y : ℕ) → DrawsOn most c a s x y
 question-few-rows {c} a f s x y = record { rows = rows; few = omega arith; decide = decide }
   where

@@ -4,11 +4,13 @@ pub mod CompressedStep
 pub mod CompressedStepLaws
 pub mod StoredAnswer
 pub mod StoredAnswerLaws
+pub mod Line
+pub mod LevelLaws
 pub mod PlainAnswer
+pub mod PlainAnswerLaws
 pub mod AnswerRows
 pub mod Outcome
 pub mod Question
-pub mod LevelLaws
 pub mod QuestionLaws
 pub mod Agreement
 pub mod FewRows

@@ -1,5 +1,5 @@
 -- The question (01, the answer to a question, and the order of refusals 3, 1, 4), on any parts, count, root, x and y.
--- What 01 leaves open is decided so: count and root are looked at before any row; the rows of x, y and the root are read in every question, one on a
+-- What 01 leaves open is decided so: count and root are looked at before any row; the rows of x and y are read in every question, one on a
 -- node with itself too; a row read is in use and sound, or the outcome is refusal 4, and so it is where a branch that is sought is none.
 use mathlib.Core.Bool.{Bool, _&&_}
 use Prim.Native.Nat.{ℕ, _≤_}
@@ -30,9 +30,9 @@ pub record InRange (t : Table) (x y a : ℕ) : Type 0 where
   pub right : natAbs (level t y) ≤ levelLimit
   pub top : natAbs (level t a) ≤ levelLimit
 
--- x, y and the root are rows, and so is every row that is read from there
+-- x and y are rows, and so is every row that is read from there
 unfoldable pub isServed : Table → ℕ → ℕ → Bool
-isServed t x y = isRow t x && isRow t y && isRow t (t .root) && plainAnswer t x y .sound
+isServed t x y = isRow t x && isRow t y && plainAnswer t x y .sound
 
 -- the plain answer, or refusal 4 where a row read is not sound or a row sought is missing
 unfoldable pub served : Table → ℕ → ℕ → Outcome

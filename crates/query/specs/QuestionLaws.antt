@@ -14,15 +14,15 @@ use Rattle.rows.specs.State.{Standing, isStanding}
 use Rattle.rows.specs.Table.{Table, tableOf}
 use Rattle.query.specs.Reading.{Holds, isRow}
 use Rattle.query.specs.ReadingLaws.{says-row}
-use Rattle.query.specs.PlainAnswer.{Asked, plainAnswer}
+use Rattle.query.specs.StoredAnswer.{Asked}
+use Rattle.query.specs.PlainAnswer.{plainAnswer}
 use Rattle.query.specs.AnswerRows.{plain-row}
 use Rattle.query.specs.Outcome.{refused}
 use Rattle.query.specs.Question.{InRange, served, asked, question}
 
--- the rows of x, y and the root
-pub tests-asked : (t : Table) (x y : ℕ) → isRow t x ≡ true → isRow t y ≡ true → isRow t (t .root) ≡ true → Asked t x y
-tests-asked t x y e f g =
-    record { left = says-get (says-row t x) e; right = says-get (says-row t y) f; root = says-get (says-row t (t .root)) g }
+-- the rows of x and y
+pub tests-asked : (t : Table) (x y : ℕ) → isRow t x ≡ true → isRow t y ≡ true → Asked t x y
+tests-asked t x y e f = record { left = says-get (says-row t x) e; right = says-get (says-row t y) f }
 
 -- the levels of a sound answer
 pub plain-in-range : (t : Table) (x y : ℕ) → Asked t x y → plainAnswer t x y .sound ≡ true → InRange t x y (plainAnswer t x y .nca)

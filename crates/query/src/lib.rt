@@ -1,6 +1,7 @@
-// Characteristic ancestors of two nodes of a table: the compressed step, the stored answer from it, and the plain answer from three stored ones.
+// Characteristic ancestors of two nodes of a table: the compressed step, the stored answer from it, and the plain answer from one stored one or two.
 // All of it only reads, and takes the same few steps on every table.
 mod compressed;
+pub mod line;
 mod plain;
 pub mod row;
 pub mod stored;
@@ -92,9 +93,6 @@ fn served(
         return Answered::Refused(Refusal::Corrupt);
     }
     if !is_row(fields, numbers, levels, ancestors, state, y) {
-        return Answered::Refused(Refusal::Corrupt);
-    }
-    if !is_row(fields, numbers, levels, ancestors, state, state.root) {
         return Answered::Refused(Refusal::Corrupt);
     }
     let f = plain_answer(fields, numbers, levels, ancestors, state, x, y);

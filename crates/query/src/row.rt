@@ -1,15 +1,20 @@
-// The rows that a question reads.
+// The rows that a question reads. A row is checked first; then its numbers are read with no test, since it lies within the parts.
 use rows::check::is_sound;
+use rows::layout::FIELDS;
+use rows::layout::NUMBERS;
 use rows::layout::SET_SIZE;
 use rows::layout::START;
-use rows::row::field;
-use rows::row::number;
 use rows::row::row_at;
 use rows::state::State;
 use span::Span;
 use span::part;
 ghost use mathlib.Core.Path.{_≡_};
+ghost use Prim.Native.Nat.{_<_};
 ghost use lib.Dec.{ltb};
+ghost use Rattle.laws.specs.Fourth.{fourth};
+ghost use Rattle.rows.specs.Layout.{fieldStride};
+ghost use Rattle.rows.specs.Row.{fieldAt};
+ghost use Rattle.rows.specs.Table.{setSize, start};
 ghost use Rattle.rows.specs.Spans.{p, reach};
 ghost use Rattle.query.specs.Reading.{Holds, IsRow, asTable, isRow, covers};
 
@@ -32,6 +37,58 @@ pub fn is_row(
     is_sound(row_at(fields, numbers, levels, v), count)
 }
 
+// Field k of a sound row.
+pub fn field_of(
+    fields: &[u16],
+    numbers: &[u64],
+    levels: &[i32],
+    ancestors: &[u16],
+    state: State,
+    v: u16,
+    k: u16,
+) -> u16
+    requires { ⌜ Holds (state .count) (now fields) (now numbers) (now levels) ⌝ }
+    requires { ⌜ IsRow (asTable (now fields) (now numbers) (now levels) (now ancestors) state) v ⌝ }
+    requires { ⌜ k < fieldStride ⌝ }
+    ensures { λ r. ⌜ r ≡ fieldAt (now (fields .entry)) v k ⌝ }
+{
+    let i = (v as usize) * FIELDS + (k as usize);
+    fields[i]
+}
+
+// The start of a sound row.
+fn start_of(
+    fields: &[u16],
+    numbers: &[u64],
+    levels: &[i32],
+    ancestors: &[u16],
+    state: State,
+    v: u16,
+) -> u64
+    requires { ⌜ Holds (state .count) (now fields) (now numbers) (now levels) ⌝ }
+    requires { ⌜ IsRow (asTable (now fields) (now numbers) (now levels) (now ancestors) state) v ⌝ }
+    ensures { λ r. ⌜ r ≡ start (asTable (now (fields .entry)) (now (numbers .entry)) (now (levels .entry)) (now (ancestors .entry)) state) v ⌝ }
+{
+    let i = (v as usize) * NUMBERS + (START as usize);
+    numbers[i]
+}
+
+// One part of the span of a sound row.
+fn part_of(
+    fields: &[u16],
+    numbers: &[u64],
+    levels: &[i32],
+    ancestors: &[u16],
+    state: State,
+    v: u16,
+) -> u64
+    requires { ⌜ Holds (state .count) (now fields) (now numbers) (now levels) ⌝ }
+    requires { ⌜ IsRow (asTable (now fields) (now numbers) (now levels) (now ancestors) state) v ⌝ }
+    ensures { λ r. ⌜ r ≡ fourth (setSize (asTable (now (fields .entry)) (now (numbers .entry)) (now (levels .entry)) (now (ancestors .entry)) state) v) ⌝ }
+{
+    part(field_of(fields, numbers, levels, ancestors, state, v, SET_SIZE))
+}
+
 // The number p of a sound row.
 pub fn p_at(
     fields: &[u16],
@@ -41,13 +98,15 @@ pub fn p_at(
     state: State,
     v: u16,
 ) -> u64
+    requires { ⌜ Holds (state .count) (now fields) (now numbers) (now levels) ⌝ }
     requires { ⌜ IsRow (asTable (now fields) (now numbers) (now levels) (now ancestors) state) v ⌝ }
     ensures { λ r. ⌜ r ≡ p (asTable (now (fields .entry)) (now (numbers .entry)) (now (levels .entry)) (now (ancestors .entry)) state) v ⌝ }
 {
-    number(numbers, v, START) + part(field(fields, v, SET_SIZE))
+    start_of(fields, numbers, levels, ancestors, state, v)
+        + part_of(fields, numbers, levels, ancestors, state, v)
 }
 
-// The reach of row v is over the distance d. It is compared by parts, so that no row's number is too large.
+// The reach of a sound row is over the distance d.
 pub fn reaches(
     fields: &[u16],
     numbers: &[u64],
@@ -57,12 +116,15 @@ pub fn reaches(
     v: u16,
     d: u64,
 ) -> bool
+    requires { ⌜ Holds (state .count) (now fields) (now numbers) (now levels) ⌝ }
+    requires { ⌜ IsRow (asTable (now fields) (now numbers) (now levels) (now ancestors) state) v ⌝ }
     ensures { λ r. ⌜ r ≡ ltb d (reach (asTable (now (fields .entry)) (now (numbers .entry)) (now (levels .entry)) (now (ancestors .entry)) state) v) ⌝ }
 {
-    d / (Span::WIDTH - 2) < part(field(fields, v, SET_SIZE))
+    let one = part_of(fields, numbers, levels, ancestors, state, v);
+    d < (Span::WIDTH - 2) * one
 }
 
-// The number n lies from p to q of row v, q excluded.
+// The number n lies from p to q of a sound row, q excluded.
 pub fn covers(
     fields: &[u16],
     numbers: &[u64],
@@ -72,13 +134,14 @@ pub fn covers(
     v: u16,
     n: u64,
 ) -> bool
+    requires { ⌜ Holds (state .count) (now fields) (now numbers) (now levels) ⌝ }
+    requires { ⌜ IsRow (asTable (now fields) (now numbers) (now levels) (now ancestors) state) v ⌝ }
     ensures { λ r. ⌜ r ≡ covers (asTable (now (fields .entry)) (now (numbers .entry)) (now (levels .entry)) (now (ancestors .entry)) state) v n ⌝ }
 {
-    let start = number(numbers, v, START);
-    if n < start {
+    let start = start_of(fields, numbers, levels, ancestors, state, v);
+    let one = part_of(fields, numbers, levels, ancestors, state, v);
+    if n < start + one {
         return false;
     }
-    let after = n - start;
-    let one = part(field(fields, v, SET_SIZE));
-    (one <= after) & (after / (Span::WIDTH - 1) < one)
+    n < start + (Span::WIDTH - 1) * one
 }

@@ -21,7 +21,7 @@ use Rattle.numbering.specs.SoundRows.{rules-sound}
 use Rattle.query.specs.declared.compressed.Side.{Side}
 use Rattle.query.specs.Reading.{IsRow, isRow, covers}
 use Rattle.query.specs.ReadingLaws.{says-row}
-use Rattle.query.specs.CompressedStep.{climb, atEntry, pastEntry, pastReach, pastSpan, sideFrom, compressedSide}
+use Rattle.query.specs.CompressedStep.{arrive, climb, atEntry, pastEntry, pastReach, pastSpan, sideFrom, compressedSide}
 use Rattle.query.specs.StoredAnswer.{between}
 
 -- a side that stands at row a, came from row b, and met sound rows only
@@ -73,13 +73,13 @@ module _ {capacity : ℕ} {t : Table} (r : Rules capacity t) (fits : capacity �
 
   climb-place : (stay : Bool) (m : Place) → m .row < t .count → pick stay m (sideAbove t (m .row)) .row < t .count
       → climb t stay (sideOf m) ≡ sideOf (pick stay m (sideAbove t (m .row)))
-  unfolding climb branchOf
+  unfolding climb arrive branchOf
   climb-place true m l h = refl
   climb-place false m l h = rw (not-none (m .row) l, row-passes (upper t (m .row)) h)
 
   entry-place : (e z : ℕ) → Link (t .count) e → pick (eqb e none) (sideAt z) (sideAbove t e) .row < t .count
       → pastEntry t e z ≡ sideOf (pick (eqb e none) (sideAt z) (sideAbove t e))
-  unfolding pastEntry atEntry climb branchOf
+  unfolding pastEntry atEntry climb arrive branchOf
   entry-place e z (inl i) h = rw (says-true (says-eqb e none) i)
   entry-place e z (inr i) h =
       let o : upper t e < t .count = rw (not-none e i) at h in

@@ -70,7 +70,6 @@ module _ {capacity : â„•} {t : Table} (r : Rules capacity t) (fits : capacity â‰
         outcome = rw (
           row-passes r fits x l,
           row-passes r fits y m,
-          row-passes r fits (t .root) (r .one .root (omega arith)),
           f .sound,
           u .levels,
           v .levels,

@@ -18,6 +18,7 @@ pub mod RerootLaws
 pub mod PlainDepth
 pub mod PlainDepthLaws
 pub mod PlainFromStored
+pub mod LeadsOn
 pub mod Characteristic
 pub mod PlainGrowth
 pub mod Siblings

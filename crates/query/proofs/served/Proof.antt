@@ -1,6 +1,5 @@
 -- `served`: each test in turn, or the plain answer, whose rows are sound.
 use mathlib.Core.Path.{sym, ap, _∙_}
-use mathlib.Core.Bool.{true, false}
 use borrow.Author.Tests.{not-true, not-false}
 use Rattle.query.specs.declared.stored.Fork.{Fork}
 use Rattle.query.specs.Question.{isServed, served}
@@ -26,63 +25,36 @@ returns-2 c =
     let y = sym (c .before .is-row2 .ensures) ∙ not-true _ (c .if2 .taken) in
     rw (x, y)
 
-is-row-requires-3 : tie.Need-is-row-requires-3
-is-row-requires-3 c κs = search needs
+plain-answer-requires : tie.Need-plain-answer-requires
+plain-answer-requires c κs =
+    let x = sym (c .before .before .before .is-row .ensures) ∙ not-false _ (c .before .before .if1 .left) in
+    let y = sym (c .before .is-row2 .ensures) ∙ not-false _ (c .if2 .left) in
+    (c .before .before .before .before .before .before .before .pre, tests-asked _ _ _ x y)
 
 returns-3 : tie.Need-returns-3
 unfolding served isServed
 returns-3 c =
-    let x = sym (c .before .before .before .before .before .is-row .ensures) ∙ not-false _ (c .before .before .before .before .if1 .left) in
-    let y = sym (c .before .before .before .is-row2 .ensures) ∙ not-false _ (c .before .before .if2 .left) in
-    let root = sym (c .before .is-row3 .ensures) ∙ not-true _ (c .if3 .taken) in
-    rw (x, y, root)
+    let x = sym (c .before .before .before .before .before .before .is-row .ensures) ∙ not-false _ (c .before .before .before .before .before .if1 .left) in
+    let y = sym (c .before .before .before .before .is-row2 .ensures) ∙ not-false _ (c .before .before .before .if2 .left) in
+    let answer = sym (ap (λ (f : Fork). f .sound) (c .before .before .plain-answer .ensures)) ∙ not-true _ (c .if3 .taken) in
+    rw (x, y, answer)
 
-plain-answer-requires : tie.Need-plain-answer-requires
-plain-answer-requires c κs =
-    let x = sym (c .before .before .before .before .before .is-row .ensures) ∙ not-false _ (c .before .before .before .before .if1 .left) in
-    let y = sym (c .before .before .before .is-row2 .ensures) ∙ not-false _ (c .before .before .if2 .left) in
-    let root = sym (c .before .is-row3 .ensures) ∙ not-false _ (c .if3 .left) in
-    (c .before .before .before .before .before .before .before .before .before .pre, tests-asked _ _ _ x y root)
+answer-of-requires : tie.Need-answer-of-requires
+answer-of-requires c κs =
+    let x = sym (c .before .before .before .before .before .before .is-row .ensures) ∙ not-false _ (c .before .before .before .before .before .if1 .left) in
+    let y = sym (c .before .before .before .before .is-row2 .ensures) ∙ not-false _ (c .before .before .before .if2 .left) in
+    let answer = c .before .before .plain-answer .ensures in
+    let sound = sym (ap (λ (f : Fork). f .sound) answer) ∙ not-false _ (c .if3 .left) in
+    rw answer (plain-in-range _ _ _ (tests-asked _ _ _ x y) sound)
 
 returns-4 : tie.Need-returns-4
 unfolding served isServed
 returns-4 c =
-    let x = sym (c .before .before .before .before .before .before .before .before .is-row .ensures) ∙ not-false _ (c .before .before .before .before .before .before .before .if1 .left) in
-    let y = sym (c .before .before .before .before .before .before .is-row2 .ensures) ∙ not-false _ (c .before .before .before .before .before .if2 .left) in
-    let root = sym (c .before .before .before .before .is-row3 .ensures) ∙ not-false _ (c .before .before .before .if3 .left) in
-    let answer = sym (ap (λ (f : Fork). f .sound) (c .before .before .plain-answer .ensures)) ∙ not-true _ (c .if4 .taken) in
-    rw (x, y, root, answer)
-
-answer-of-requires : tie.Need-answer-of-requires
-answer-of-requires c κs =
-    let x = sym (c .before .before .before .before .before .before .before .before .is-row .ensures) ∙ not-false _ (c .before .before .before .before .before .before .before .if1 .left) in
-    let y = sym (c .before .before .before .before .before .before .is-row2 .ensures) ∙ not-false _ (c .before .before .before .before .before .if2 .left) in
-    let root = sym (c .before .before .before .before .is-row3 .ensures) ∙ not-false _ (c .before .before .before .if3 .left) in
-    let answer = c .before .before .plain-answer .ensures in
-    let sound = sym (ap (λ (f : Fork). f .sound) answer) ∙ not-false _ (c .if4 .left) in
-    rw answer (plain-in-range _ _ _ (tests-asked _ _ _ x y root) sound)
-
-returns-5 : tie.Need-returns-5
-unfolding served isServed
-returns-5 c =
-    let x = sym (c .before .before .before .before .before .before .before .before .before .is-row .ensures) ∙ not-false _ (c .before .before .before .before .before .before .before .before .if1 .left) in
-    let y = sym (c .before .before .before .before .before .before .before .is-row2 .ensures) ∙ not-false _ (c .before .before .before .before .before .before .if2 .left) in
-    let root = sym (c .before .before .before .before .before .is-row3 .ensures) ∙ not-false _ (c .before .before .before .before .if3 .left) in
+    let x = sym (c .before .before .before .before .before .before .before .is-row .ensures) ∙ not-false _ (c .before .before .before .before .before .before .if1 .left) in
+    let y = sym (c .before .before .before .before .before .is-row2 .ensures) ∙ not-false _ (c .before .before .before .before .if2 .left) in
     let answer = c .before .before .before .plain-answer .ensures in
-    let sound = sym (ap (λ (f : Fork). f .sound) answer) ∙ not-false _ (c .before .if4 .left) in
-    rw (x, y, root, sound, ← answer) (c .answer-of .ensures)
+    let sound = sym (ap (λ (f : Fork). f .sound) answer) ∙ not-false _ (c .before .if3 .left) in
+    rw (x, y, sound, ← answer) (c .answer-of .ensures)
 
 pub served-spec : {M : Type 1} → statement M
-served-spec =
-    tie.close
-    (tie.spec
-    is-row-requires
-    returns
-    is-row-requires-2
-    returns-2
-    is-row-requires-3
-    returns-3
-    plain-answer-requires
-    returns-4
-    answer-of-requires
-    returns-5)
+served-spec = tie.close (tie.spec is-row-requires returns is-row-requires-2 returns-2 plain-answer-requires returns-3 answer-of-requires returns-4)

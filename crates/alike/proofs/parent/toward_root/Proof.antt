@@ -4,20 +4,14 @@ use borrow.Author.Needs.{needs}
 use Rattle.alike.proofs.parent.toward_root.Statement.{statement}
 use Rattle.alike.proofs.parent.toward_root.Tie as tie
 
-p-at-requires : tie.Need-p-at-requires
-p-at-requires c κs = search needs
-
-p-at-requires-2 : tie.Need-p-at-requires-2
-p-at-requires-2 c κs = search needs
-
-stored-from-requires : tie.Need-stored-from-requires
-stored-from-requires c κs = search needs
+stored-answer-requires : tie.Need-stored-answer-requires
+stored-answer-requires c κs = search needs
 
 returns : tie.Need-returns
-returns c = rw (c .if1 .taken) at (toward-root _ _ (c .before .before .before .before .before .p-at .ensures) (c .before .before .before .before .p-at2 .ensures) (c .before .before .before .stored-from .ensures))
+returns c = rw (c .if1 .taken) at (toward-root _ _ (c .before .before .before .stored-answer .ensures))
 
 returns-2 : tie.Need-returns-2
-returns-2 c = rw (c .if1 .left) at (toward-root _ _ (c .before .before .before .before .before .p-at .ensures) (c .before .before .before .before .p-at2 .ensures) (c .before .before .before .stored-from .ensures))
+returns-2 c = rw (c .if1 .left) at (toward-root _ _ (c .before .before .before .stored-answer .ensures))
 
 pub toward-root-spec : {M : Type 1} → statement M
-toward-root-spec = tie.close (tie.spec p-at-requires p-at-requires-2 stored-from-requires returns returns-2)
+toward-root-spec = tie.close (tie.spec stored-answer-requires returns returns-2)

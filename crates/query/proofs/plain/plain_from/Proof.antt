@@ -1,61 +1,52 @@
--- `plain_from`: by which two of the stored nearest common ancestors are equal.
-use borrow.Author.Tests.{eq-eqb, ne-eqb}
-use Rattle.tree_laws.specs.PlainFromStored.{plainNca, plainToX, plainToY}
+-- `plain_from`: the stored answer is kept, a row is not sound, or the line goes on below it.
+use mathlib.Core.Path.{sym, _∙_}
+use borrow.Author.Tests.{not-true, not-false}
 use Rattle.query.specs.PlainAnswer.{plainFrom}
+use Rattle.query.specs.AnswerRows.{are-rows}
+use Rattle.query.specs.PlainAnswerLaws.{plain-lowered}
 use borrow.Author.Needs.{needs}
 use Rattle.query.proofs.plain.plain_from.Statement.{statement}
 use Rattle.query.proofs.plain.plain_from.Tie as tie
 
-forked-requires : tie.Need-forked-requires
-forked-requires c κs = search needs
-
 returns : tie.Need-returns
-unfolding plainFrom plainNca plainToX plainToY
-returns c = let a = c .before .before .before .before .before .before .before .before .args in rw (c .forked .ensures, eq-eqb (a .xr .nca) (a .yr .nca) (c .before .if1 .taken))
+unfolding plainFrom
+returns c = let f = c .before .before .before .before .before .args .f in rw (not-true (f .sound) (c .if1 .taken))
 
-field-requires : tie.Need-field-requires
-field-requires c κs = search needs
-
-forked-requires-2 : tie.Need-forked-requires-2
-forked-requires-2 c κs = search needs
+is-above-requires : tie.Need-is-above-requires
+is-above-requires c κs = c .before .before .before .before .before .pre .1 .1 (not-false _ (c .if1 .left))
 
 returns-2 : tie.Need-returns-2
-unfolding plainFrom plainNca plainToX plainToY
+unfolding plainFrom
 returns-2 c =
-    let a = c .before .before .before .before .before .before .before .before .before .before .before .args in
-    rw (
-      c .forked2 .ensures,
-      c .before .field .ensures,
-      ne-eqb (a .xr .nca) (a .yr .nca) (c .before .before .before .before .if1 .left),
-      eq-eqb (a .xy .nca) (a .xr .nca) (c .before .before .if2 .taken),
-    )
+    let f = c .before .before .before .before .before .before .before .args .f in
+    let above = sym (c .before .is-above .ensures) ∙ not-true _ (c .if2 .taken) in
+    rw (not-false (f .sound) (c .before .before .if1 .left), above)
 
-field-requires-2 : tie.Need-field-requires-2
-field-requires-2 c κs = search needs
+are-rows-requires : tie.Need-are-rows-requires
+are-rows-requires c κs = search needs
 
-forked-requires-3 : tie.Need-forked-requires-3
-forked-requires-3 c κs = search needs
+lost-requires : tie.Need-lost-requires
+lost-requires c κs = search needs
 
 returns-3 : tie.Need-returns-3
-unfolding plainFrom plainNca plainToX plainToY
+unfolding plainFrom
 returns-3 c =
-    let a = c .before .before .before .before .before .before .before .before .before .before .before .args in
-    rw (
-      c .forked3 .ensures,
-      c .before .field2 .ensures,
-      ne-eqb (a .xr .nca) (a .yr .nca) (c .before .before .before .before .if1 .left),
-      ne-eqb (a .xy .nca) (a .xr .nca) (c .before .before .if2 .left),
-    )
+    let f = c .before .before .before .before .before .before .before .before .before .before .args .f in
+    let above = sym (c .before .before .before .before .is-above .ensures) ∙ not-false _ (c .before .before .before .if2 .left) in
+    let rows = sym (c .before .before .are-rows .ensures) ∙ not-true _ (c .before .if3 .taken) in
+    rw (c .lost .ensures, rows, above, not-false (f .sound) (c .before .before .before .before .before .if1 .left))
+
+lowered-requires : tie.Need-lowered-requires
+lowered-requires c κs =
+    let h = c .before .before .before .before .before .before .before .before .before .pre in
+    (h .0, (h .1 .0, are-rows _ _ (sym (c .before .are-rows .ensures) ∙ not-false _ (c .if3 .left))))
+
+returns-4 : tie.Need-returns-4
+returns-4 c =
+    let sound = not-false _ (c .before .before .before .before .before .if1 .left) in
+    let above = sym (c .before .before .before .before .is-above .ensures) ∙ not-false _ (c .before .before .before .if2 .left) in
+    let rows = sym (c .before .before .are-rows .ensures) ∙ not-false _ (c .before .if3 .left) in
+    c .lowered .ensures ∙ plain-lowered _ _ _ _ sound above rows
 
 pub plain-from-spec : {M : Type 1} → statement M
-plain-from-spec =
-    tie.close
-    (tie.spec
-    forked-requires
-    returns
-    field-requires
-    forked-requires-2
-    returns-2
-    field-requires-2
-    forked-requires-3
-    returns-3)
+plain-from-spec = tie.close (tie.spec returns is-above-requires returns-2 are-rows-requires lost-requires returns-3 lowered-requires returns-4)

@@ -1,0 +1,285 @@
+/* A C host of the library: plays a log through the table form and through byte trees, prints what each call gave, and checks the refusals of a host.
+ * What it writes is held against client/expected. */
+#include "vundreli.h"
+
+#include <stdio.h>
+#include <string.h>
+
+enum { CAPACITY = 128 };
+
+/* The log of the requirements. */
+static const uint8_t LOG[] = {
+    2, 0, 0,
+    1, 0, 4, 0, 0, 0, 7,
+    1, 0, 4, 0, 1, 0, 9,
+    3, 0, 4, 0, 1, 0, 2,
+    1, 0, 4, 0, 5, 0, 7,
+    2, 0, 0,
+    3, 0, 4, 0, 2, 0, 3,
+};
+
+static int failures = 0;
+
+static void expect(int holds, const char *what) {
+    if (!holds) {
+        failures++;
+        printf("FAILED: %s\n", what);
+    }
+}
+
+/* A growth and a question as any form answers them. */
+struct growth {
+    unsigned node, rows;
+    int level;
+};
+
+struct answer {
+    long values[6];
+};
+
+/* ---- the table form */
+
+static struct table {
+    uint16_t fields[10 * CAPACITY];
+    uint64_t numbers[2 * CAPACITY];
+    int32_t levels[CAPACITY];
+    uint16_t ancestors[122 * CAPACITY];
+    uint16_t count, root;
+} table;
+
+static uint16_t scratch[CAPACITY];
+
+#define PARTS table.fields, 10 * CAPACITY, table.numbers, 2 * CAPACITY, table.levels, CAPACITY, table.ancestors, 122 * CAPACITY
+
+static unsigned table_set_up(void) {
+    uint16_t out[2];
+    unsigned refusal = nca_table_set_up(PARTS, out, 2);
+    if (refusal == 0) {
+        table.count = out[0];
+        table.root = out[1];
+    }
+    return refusal;
+}
+
+/* Keeps count and root. */
+static void table_grown(const uint16_t out[4], struct growth *g) {
+    table.count = out[0];
+    table.root = out[1];
+    g->node = out[2];
+    g->rows = out[3];
+    g->level = table.levels[out[2]];
+}
+
+static unsigned table_add_leaf(unsigned parent, unsigned label, struct growth *g) {
+    uint16_t out[4];
+    unsigned refusal = nca_table_add_leaf(PARTS, scratch, CAPACITY, table.count, table.root, (uint16_t)parent, (uint16_t)label, out, 4);
+    if (refusal == 0)
+        table_grown(out, g);
+    return refusal;
+}
+
+static unsigned table_add_root(struct growth *g) {
+    uint16_t out[4];
+    unsigned refusal = nca_table_add_root(PARTS, scratch, CAPACITY, table.count, table.root, out, 4);
+    if (refusal == 0)
+        table_grown(out, g);
+    return refusal;
+}
+
+static unsigned table_query(unsigned x, unsigned y, struct answer *a) {
+    int32_t out[6];
+    unsigned refusal = nca_table_query(PARTS, table.count, table.root, (uint16_t)x, (uint16_t)y, out, 6);
+    if (refusal == 0)
+        for (int i = 0; i < 6; i++)
+            a->values[i] = out[i];
+    return refusal;
+}
+
+/* ---- byte trees */
+
+static uint8_t tree[NCA_TREE_BYTES];
+
+/* The places of the columns. */
+enum { FIELDS = 4, NUMBERS = 2564, LEVELS = 4612, ANCESTORS = 5124 };
+
+static unsigned little_endian(const uint8_t *b) { return b[0] + 256u * b[1]; }
+
+/* 4 bytes in two's complement. */
+static long signed_at(const uint8_t *b) {
+    long x = (long)(little_endian(b) + 65536ul * little_endian(b + 2));
+    return x < 2147483648l ? x : x - 4294967296l;
+}
+
+static unsigned tree_set_up(void) { return nca_set_up(tree, NCA_TREE_BYTES); }
+
+static void tree_grown(const uint8_t out[4], struct growth *g) {
+    g->node = little_endian(out);
+    g->rows = little_endian(out + 2);
+    g->level = (int)signed_at(tree + LEVELS + 4 * g->node);
+}
+
+static unsigned tree_add_leaf(unsigned parent, unsigned label, struct growth *g) {
+    uint8_t out[4];
+    unsigned refusal = nca_add_leaf(tree, NCA_TREE_BYTES, (uint16_t)parent, (uint16_t)label, out, 4);
+    if (refusal == 0)
+        tree_grown(out, g);
+    return refusal;
+}
+
+static unsigned tree_add_root(struct growth *g) {
+    uint8_t out[4];
+    unsigned refusal = nca_add_root(tree, NCA_TREE_BYTES, out, 4);
+    if (refusal == 0)
+        tree_grown(out, g);
+    return refusal;
+}
+
+static unsigned tree_query(unsigned x, unsigned y, struct answer *a) {
+    uint8_t out[16];
+    unsigned refusal = nca_query(tree, NCA_TREE_BYTES, (uint16_t)x, (uint16_t)y, out, 16);
+    if (refusal == 0) {
+        for (int i = 0; i < 3; i++)
+            a->values[i] = (long)little_endian(out + 2 * i);
+        a->values[3] = signed_at(out + 6);
+        a->values[4] = signed_at(out + 10);
+        a->values[5] = (long)little_endian(out + 14);
+    }
+    return refusal;
+}
+
+/* ---- any form */
+
+struct form {
+    unsigned (*set_up)(void);
+    unsigned (*add_leaf)(unsigned parent, unsigned label, struct growth *g);
+    unsigned (*add_root)(struct growth *g);
+    unsigned (*query)(unsigned x, unsigned y, struct answer *a);
+};
+
+static const struct form TABLE = {table_set_up, table_add_leaf, table_add_root, table_query};
+static const struct form TREE = {tree_set_up, tree_add_leaf, tree_add_root, tree_query};
+
+static unsigned big_endian(const uint8_t *b) { return 256u * b[0] + b[1]; }
+
+/* One field of a well-formed log; the rows that it renumbered. */
+static unsigned play_field(const struct form *f, unsigned ordinal, const uint8_t *field) {
+    unsigned tag = field[0], refusal;
+    struct growth g = {0, 0, 0};
+    struct answer a = {{0}};
+    if (tag == 3)
+        refusal = f->query(big_endian(field + 3), big_endian(field + 5), &a);
+    else if (tag == 1)
+        refusal = f->add_leaf(big_endian(field + 3), big_endian(field + 5), &g);
+    else
+        refusal = f->add_root(&g);
+    if (refusal != 0)
+        printf("%u R %u\n", ordinal, refusal);
+    else if (tag == 3)
+        printf("%u Q %ld %ld %ld %ld %ld %ld\n", ordinal, a.values[0], a.values[1], a.values[2], a.values[3], a.values[4], a.values[5]);
+    else
+        printf("%u %c %u %d %u\n", ordinal, tag == 1 ? 'L' : 'T', g.node, g.level, g.rows);
+    return g.rows;
+}
+
+static void play(const struct form *f, unsigned (*count)(void)) {
+    unsigned ordinal = 0, total = 0;
+    expect(f->set_up() == 0, "set-up is served");
+    printf("echo %d\n", CAPACITY);
+    for (size_t at = 0; at < sizeof LOG; at += 3 + big_endian(LOG + at + 1))
+        total += play_field(f, ++ordinal, LOG + at);
+    printf("end %u %u\n", count(), total);
+}
+
+/* A path of as many nodes as there is room for, and one more. */
+static void fill(const struct form *f) {
+    struct growth g = {0, 0, 0};
+    struct answer a = {{0}};
+    unsigned served = 0;
+    expect(f->set_up() == 0, "set-up is served");
+    expect(f->add_root(&g) == 0, "the first node is served");
+    while (served < CAPACITY - 1 && f->add_leaf(served, 1 + served, &g) == 0)
+        expect(g.node == ++served, "a leaf has the next number");
+    expect(served == CAPACITY - 1, "128 nodes are served");
+    expect(f->add_leaf(0, 1, &g) == NCA_FULL, "the 129th node is refused");
+    expect(f->add_root(&g) == NCA_FULL, "so is a root");
+    expect(f->query(CAPACITY - 1, 64, &a) == 0 && a.values[0] == 64 && a.values[1] == 65 && a.values[3] == 63 && a.values[5] == 64, "a question on the full tree");
+    expect(f->query(CAPACITY, 0, &a) == NCA_UNKNOWN_NODE, "an unknown node is refused");
+    expect(f->add_leaf(0, 10000, &g) == NCA_BAD_LABEL, "a label of 10,000 is refused");
+}
+
+static unsigned table_count(void) { return table.count; }
+
+static unsigned tree_count(void) { return little_endian(tree); }
+
+static void table_calls(void) {
+    uint16_t out[4] = {9, 9, 9, 9}, yes = 9;
+    struct table before = table;
+    expect(nca_table_add_root(PARTS, scratch, CAPACITY, table.count, table.root, out, 3) == NCA_MISFIT, "a short out slice is a misfit");
+    expect(nca_table_add_root(PARTS, scratch, CAPACITY - 1, table.count, table.root, out, 4) == NCA_MISFIT, "a short scratch is a misfit");
+    expect(out[0] == 9 && out[3] == 9 && memcmp(&before, &table, sizeof table) == 0, "a refusal changes nothing");
+    expect(nca_table_alike(PARTS, table.count, table.root, 1, 1, &yes, 1) == 0 && yes == 1, "a node is alike to itself");
+    expect(nca_table_alike(PARTS, table.count, table.root, 1, 2, &yes, 1) == 0 && yes == 0, "other labels are not alike");
+    expect(nca_table_inspect(PARTS, scratch, CAPACITY, table.count, table.root, &yes, 1) == 0 && yes == 1, "the table passes inspection");
+    table.levels[1] += 1;
+    expect(nca_table_inspect(PARTS, scratch, CAPACITY, table.count, table.root, &yes, 1) == 0 && yes == 0, "a false level does not pass");
+    table.levels[1] -= 1;
+}
+
+static void tree_calls(void) {
+    static uint8_t before[NCA_TREE_BYTES];
+    uint8_t out[16];
+    memset(out, 9, sizeof out);
+    memcpy(before, tree, sizeof tree);
+    expect(nca_set_up(tree, NCA_TREE_BYTES - 1) == NCA_MISFIT, "a short tree is a misfit");
+    expect(nca_add_leaf(tree, NCA_TREE_BYTES - 1, 0, 1, out, 4) == NCA_MISFIT, "a short tree is a misfit of a leaf");
+    expect(nca_add_leaf(tree, NCA_TREE_BYTES, 0, 1, out, 3) == NCA_MISFIT, "a short out slice is a misfit");
+    expect(nca_add_leaf(tree, NCA_TREE_BYTES, 0, 0, out, 4) == NCA_BAD_LABEL, "a label of 0 is refused");
+    expect(nca_query(tree, NCA_TREE_BYTES, 0, NCA_NONE, out, 16) == NCA_UNKNOWN_NODE, "an unknown node is refused");
+    expect(out[0] == 9 && out[15] == 9 && memcmp(before, tree, sizeof tree) == 0, "a refusal changes nothing");
+    tree[2] = 200; /* a root that is no node */
+    expect(nca_query(tree, NCA_TREE_BYTES, 0, 1, out, 16) == NCA_CORRUPT, "a tree that these calls did not leave is refused");
+    tree[2] = before[2];
+}
+
+/* Both forms grow and answer alike, to the last node, and the tree holds what the table holds. */
+static void compare(void) {
+    struct growth g = {0, 0, 0}, h = {0, 0, 0};
+    struct answer a = {{0}}, b = {{0}};
+    unsigned seed = 1;
+    expect(table_set_up() == 0 && tree_set_up() == 0, "set-up is served");
+    for (unsigned n = 0; n < CAPACITY + 2; n++) {
+        unsigned parent, label, x, y, r, q;
+        seed = seed * 1103515245u + 12345u;
+        parent = seed / 65536u % (n + 1);
+        label = seed / 256u % 10002u;
+        r = n % 7 == 0 ? table_add_root(&g) : table_add_leaf(parent, label, &g);
+        q = n % 7 == 0 ? tree_add_root(&h) : tree_add_leaf(parent, label, &h);
+        expect(r == q && memcmp(&g, &h, sizeof g) == 0, "both forms grow alike");
+        x = seed / 4096u % (n + 1);
+        y = seed / 1024u % (n + 1);
+        r = table_query(x, y, &a);
+        q = tree_query(x, y, &b);
+        expect(r == q && memcmp(&a, &b, sizeof a) == 0, "both forms answer alike");
+        expect(tree_count() == table.count && little_endian(tree + 2) == table.root, "count and root are the same");
+    }
+    for (unsigned i = 0; i < 10 * CAPACITY; i++)
+        expect(little_endian(tree + FIELDS + 2 * i) == table.fields[i], "the fields are the same");
+    for (unsigned i = 0; i < 8 * 2 * CAPACITY; i++)
+        expect(tree[NUMBERS + i] == (table.numbers[i / 8] >> 8 * (i % 8)) % 256, "the numbers are the same");
+    for (unsigned i = 0; i < CAPACITY; i++)
+        expect(signed_at(tree + LEVELS + 4 * i) == table.levels[i], "the levels are the same");
+    for (unsigned i = 0; i < 122 * CAPACITY; i++)
+        expect(little_endian(tree + ANCESTORS + 2 * i) == table.ancestors[i], "the ancestor entries are the same");
+}
+
+int main(void) {
+    play(&TABLE, table_count);
+    table_calls();
+    fill(&TABLE);
+    play(&TREE, tree_count);
+    tree_calls();
+    fill(&TREE);
+    compare();
+    printf("%d failed\n", failures);
+    return failures != 0;
+}

@@ -1,0 +1,9 @@
+pub mod Bytes
+pub mod BytesLaws
+pub mod Sign
+pub mod SignLaws
+pub mod Column
+pub mod ColumnLaws
+pub mod Tree
+pub mod TreeLaws
+pub mod RoundTrip

@@ -1,0 +1,163 @@
+-- A tree that is kept as bytes is read back, and bytes that are read are written back: on trees whose numbers fit, and on bytes, both are each other's inverse.
+use mathlib.Core.Path.{_≡_, refl, ap, sym, _∙_}
+use mathlib.Core.List.{List, [], _∷_, _++_, append-assoc, append-nil, map}
+use Prim.Native.Nat.{ℕ, zero, suc, _+_, _*_, _^_, _≤_, _<_}
+use native.Mathlib.Nat.{pow-suc, lt-of-lt-of-le, pow-le-pow-right}
+use native.Mathlib.Omega.{arith}
+use lib.IntN.{ℤ, pos}
+use lib.ListN.{length, take, drop, getD, length-append, length-map, length-take, length-drop, List·getD-map, take-append-drop}
+use lib.Seq.{take-at, take-add, take-all, drop-drop, drop-append-add, getD-take, getD-drop, length-take-le}
+use Rattle.rows.specs.declared.state.State.{State}
+use Rattle.rows.specs.Row.{Parts, partsOf}
+use Rattle.rows.specs.Capacity.{Fits}
+use Rattle.set_up.specs.Tabulate.{tabulate, tabulateFrom, tabulated}
+use Rattle.bytes_tree.specs.Bytes.{value, bytes, valueAt}
+use Rattle.bytes_tree.specs.BytesLaws.{length-bytes, value-bytes, bytes-value}
+use Rattle.bytes_tree.specs.Sign.{signed, unsigned, Levels32}
+use Rattle.bytes_tree.specs.SignLaws.{signed-unsigned, unsigned-signed, unsigned-small}
+use Rattle.bytes_tree.specs.Column.{numbersAt, levelsAt, columnOf}
+use Rattle.bytes_tree.specs.ColumnLaws.{length-column}
+use Rattle.bytes_tree.specs.Tree.{treeRows, treeBytes, fieldsPlace, numbersPlace, levelsPlace, ancestorsPlace, stateIn, partsIn, encoded, Under, InBytes}
+
+-- Columns, over any width
+
+-- number i of a column with anything behind it
+part-at : (w : ℕ) (xs post : List ℕ) (i : ℕ) → i < length xs → take w (drop (i * w) (columnOf w xs ++ post)) ≡ bytes w (getD xs i 0)
+part-at w [] post i h = absurd (omega arith)
+part-at w (x ∷ xs) post zero h =
+    let z : 0 * w ≡ 0 = omega arith in
+    rw (z, append-assoc (bytes w x) (columnOf w xs) post) (take-at (bytes w x) (columnOf w xs ++ post) w (length-bytes w x))
+part-at w (x ∷ xs) post (suc i) h =
+    let z : suc i * w ≡ length (bytes w x) + i * w = rw (length-bytes w x) (omega arith) in
+    rw (z, append-assoc (bytes w x) (columnOf w xs) post, drop-append-add (bytes w x) (columnOf w xs ++ post) (i * w)) (part-at w xs post i (omega arith))
+
+-- and with anything before it
+value-at : (w : ℕ) (pre xs post : List ℕ) (i : ℕ) → i < length xs → getD xs i 0 < 256 ^ w → valueAt w (pre ++ (columnOf w xs ++ post)) (length pre + i * w) ≡ getD xs i 0
+value-at w pre xs post i h k =
+    ap (λ (l : List ℕ). value (take w l)) (drop-append-add pre (columnOf w xs ++ post) (i * w)) ∙ ap value (part-at w xs post i h) ∙ value-bytes w (getD xs i 0) k
+
+getD-unsigned : (xs : List ℤ) (i : ℕ) → getD (map unsigned xs) i 0 ≡ unsigned (getD xs i (pos 0))
+unfolding unsigned
+getD-unsigned xs i = List·getD-map unsigned xs i (pos 0)
+
+module _ (pre post : List ℕ) (place n : ℕ) (p : length pre ≡ place) where
+  pub column-read : (w : ℕ) (xs : List ℕ) → length xs ≡ n → Under (256 ^ w) xs → numbersAt w n (pre ++ (columnOf w xs ++ post)) place ≡ xs
+  unfolding numbersAt
+  column-read w xs q u = rw (← p, ← q) (sym (tabulated (λ i. valueAt w (pre ++ (columnOf w xs ++ post)) (length pre + i * w)) 0 xs (λ i h. sym (value-at w pre xs post i h (u i h)))))
+
+  pub levels-read : (xs : List ℤ) → length xs ≡ n → Levels32 xs
+      → levelsAt n (pre ++ (columnOf 4 (map unsigned xs) ++ post)) place ≡ xs
+  unfolding levelsAt
+  levels-read xs q u = rw (← p, ← q) (sym (tabulated (λ i. signed (valueAt 4 (pre ++ (columnOf 4 (map unsigned xs) ++ post)) (length pre + i * 4))) (pos 0) xs (λ i h. sym (go i h))))
+    where
+      go : (i : ℕ) → i < length xs → signed (valueAt 4 (pre ++ (columnOf 4 (map unsigned xs) ++ post)) (length pre + i * 4)) ≡ getD xs i (pos 0)
+      go i h =
+          let e : getD (map unsigned xs) i 0 ≡ unsigned (getD xs i (pos 0)) = getD-unsigned xs i in
+          let k : i < length (map unsigned xs) = rw length-map h in
+          ap signed (value-at 4 pre (map unsigned xs) post i k (rw e (unsigned-small (getD xs i (pos 0)) (u i h))) ∙ e) ∙ signed-unsigned (getD xs i (pos 0)) (u i h)
+
+-- Bytes that are read and written again
+
+value-small : (l : List ℕ) → Under 256 l → value l < 256 ^ length l
+value-small [] u = omega arith
+value-small (x ∷ l) u =
+    let h : x < 256 = u 0 (omega arith) in
+    let k : value l < 256 ^ length l = value-small l (λ i m. u (suc i) (omega arith)) in
+    let p : 256 ^ suc (length l) ≡ 256 ^ length l * 256 = pow-suc 256 (length l) in
+    omega arith
+
+module _ (b : List ℕ) (u : Under 256 b) where
+  part-under : (w place : ℕ) → Under 256 (take w (drop place b))
+  part-under w place i h =
+      let k : i < w = omega (arith, length-take w (drop place b)) in
+      let m : place + i < length b = omega (arith, length-take w (drop place b), length-drop place b) in
+      rw (getD-take w (drop place b) i 0 k, getD-drop place b i 0) (u (place + i) m)
+
+  bytes-at : (w place : ℕ) → place + w ≤ length b → bytes w (valueAt w b place) ≡ take w (drop place b)
+  bytes-at w place h =
+      let k : length (take w (drop place b)) ≡ w = length-take-le w (drop place b) (rw length-drop (omega arith)) in
+      let e : bytes (length (take w (drop place b))) (valueAt w b place) ≡ take w (drop place b) = bytes-value (take w (drop place b)) (part-under w place) in
+      ap (λ (v : ℕ). bytes v (valueAt w b place)) (sym k) ∙ e
+
+  column-from : (w place k n : ℕ) → place + (k + n) * w ≤ length b
+      → columnOf w (tabulateFrom (λ i. valueAt w b (place + i * w)) k n) ≡ take (n * w) (drop (place + k * w) b)
+  column-from w place k zero h = let z : 0 * w ≡ 0 = omega arith in rw z
+  column-from w place k (suc n) h =
+      let j = place + k * w in
+      let e : place + suc k * w ≡ place + k * w + w = omega arith in
+      let z : suc n * w ≡ w + n * w = omega arith in
+      rw (bytes-at w (place + k * w) (omega arith), column-from w place (suc k) n (omega arith), e, z)
+      (sym (take-add w (n * w) (drop j b) ∙ ap (λ (r : List ℕ). take w (drop j b) ++ take (n * w) r) (drop-drop w j b)))
+
+  pub column-written : (w place n : ℕ) → place + n * w ≤ length b → columnOf w (numbersAt w n b place) ≡ take (n * w) (drop place b)
+  unfolding numbersAt tabulate
+  column-written w place n h =
+      let z : place + 0 * w ≡ place = omega arith in
+      column-from w place 0 n (omega arith) ∙ rw z
+
+  level-small : (place : ℕ) → valueAt 4 b place < 4294967296
+  level-small place =
+      let k : length (take 4 (drop place b)) ≤ 4 = omega (arith, length-take 4 (drop place b)) in
+      lt-of-lt-of-le (value-small (take 4 (drop place b)) (part-under 4 place)) (pow-le-pow-right (omega arith) k)
+
+  levels-from : (place k n : ℕ) → map unsigned (tabulateFrom (λ i. signed (valueAt 4 b (place + i * 4))) k n) ≡ tabulateFrom (λ i. valueAt 4 b (place + i * 4)) k n
+  levels-from place k zero = refl
+  levels-from place k (suc n) = rw (unsigned-signed (valueAt 4 b (place + k * 4)) (level-small (place + k * 4)), levels-from place (suc k) n)
+
+  pub levels-written : (place n : ℕ) → map unsigned (levelsAt n b place) ≡ numbersAt 4 n b place
+  unfolding levelsAt numbersAt tabulate
+  levels-written place n = levels-from place 0 n
+
+-- Trees
+
+state-eq : {a b : ℕ} (s : State) → a ≡ s .count → b ≡ s .root → _≡_ {A = State} (record { count = a; root = b }) s
+state-eq s p q = rw (p, q)
+
+parts-eq : {f m a : List ℕ} {l : List ℤ} (t : Parts) → f ≡ t .fields → m ≡ t .numbers → l ≡ t .levels → a ≡ t .ancestors → partsOf f m l a ≡ t
+parts-eq t p q r h = rw (p, q, r, h)
+
+-- a tree whose numbers fit is read back
+module _ (s : State) (t : Parts) (f : Fits treeRows t) (g : InBytes s t) where
+  pub state-back : stateIn (encoded s t) ≡ s
+  unfolding stateIn encoded
+  state-back = state-eq s (value-bytes 2 (s .count) (g .count)) (value-bytes 2 (s .root) (g .root))
+
+  pub parts-back : partsIn (encoded s t) ≡ t
+  unfolding partsIn encoded
+  parts-back =
+      let c = bytes 2 (s .count) in
+      let r = bytes 2 (s .root) in
+      let x = columnOf 2 (t .fields) in
+      let n = columnOf 8 (t .numbers) in
+      let v = columnOf 4 (map unsigned (t .levels)) in
+      let a = columnOf 2 (t .ancestors) in
+      let lx : length x ≡ 2560 = length-column 2 (t .fields) ∙ ap (λ (k : ℕ). k * 2) (f .fields) in
+      let ln : length n ≡ 2048 = length-column 8 (t .numbers) ∙ ap (λ (k : ℕ). k * 8) (f .numbers) in
+      let lv : length v ≡ 512 = length-column 4 (map unsigned (t .levels)) ∙ ap (λ (k : ℕ). k * 4) (length-map (t .levels) unsigned ∙ f .levels) in
+      let e : x ++ (n ++ (v ++ a)) ≡ (x ++ (n ++ v)) ++ (a ++ []) = simp (append-assoc, append-nil) in
+      parts-eq t
+      (column-read (c ++ r) (n ++ (v ++ a)) fieldsPlace 1280 refl 2 (t .fields) (f .fields) (g .fields))
+      (column-read (c ++ (r ++ x)) (v ++ a) numbersPlace 256 (omega arith) 8 (t .numbers) (f .numbers) (g .numbers))
+      (ap (λ (l : List ℕ). levelsAt 128 (c ++ (r ++ l)) levelsPlace) (sym (append-assoc x n (v ++ a)))
+      ∙ levels-read (c ++ (r ++ (x ++ n))) a levelsPlace 128 (simp length-append (omega arith)) (t .levels) (f .levels) (g .levels))
+      (ap (λ (l : List ℕ). numbersAt 2 15616 (c ++ (r ++ l)) ancestorsPlace) e
+      ∙ column-read (c ++ (r ++ (x ++ (n ++ v)))) [] ancestorsPlace 15616 (simp length-append (omega arith)) 2 (t .ancestors) (f .ancestors) (g .ancestors))
+
+-- what stands at a place and what follows it
+follow : (b : List ℕ) (p n : ℕ) {a r : List ℕ} → a ≡ take n (drop p b) → r ≡ drop (p + n) b → a ++ r ≡ drop p b
+follow b p n {a} {r} x y =
+    ap (λ (l : List ℕ). l ++ r) x ∙ ap (λ (l : List ℕ). take n (drop p b) ++ l) (y ∙ sym (drop-drop n p b)) ∙ take-append-drop n (drop p b)
+
+-- every run of bytes of that length is the tree that it holds
+pub bytes-back : (b : List ℕ) → length b ≡ treeBytes → Under 256 b → encoded (stateIn b) (partsIn b) ≡ b
+unfolding encoded stateIn partsIn
+bytes-back b e u =
+    let entries : columnOf 2 (numbersAt 2 15616 b ancestorsPlace) ≡ drop ancestorsPlace b =
+    column-written b u 2 ancestorsPlace 15616 (omega arith) ∙ take-all 31232 (drop ancestorsPlace b) (rw length-drop (omega arith)) in
+    let levels : columnOf 4 (map unsigned (levelsAt 128 b levelsPlace)) ≡ take 512 (drop levelsPlace b) =
+    ap (columnOf 4) (levels-written b u levelsPlace 128) ∙ column-written b u 4 levelsPlace 128 (omega arith) in
+    follow b 0 2 (bytes-at b u 2 0 (omega arith))
+    (follow b 2 2 (bytes-at b u 2 2 (omega arith))
+    (follow b fieldsPlace 2560 (column-written b u 2 fieldsPlace 1280 (omega arith))
+    (follow b numbersPlace 2048 (column-written b u 8 numbersPlace 256 (omega arith))
+    (follow b levelsPlace 512 levels entries))))

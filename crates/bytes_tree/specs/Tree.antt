@@ -1,0 +1,56 @@
+-- A tree of capacity 128 as one run of bytes (01: "trees of capacity 128 kept as one run of bytes"), its numbers in the places of docs/FORMAT.md.
+use mathlib.Core.List.{List, _++_, map}
+use Prim.Native.Nat.{ℕ, _<_}
+use lib.ListN.{length, getD}
+use Rattle.rows.specs.declared.state.State.{State}
+use Rattle.rows.specs.Row.{Parts, partsOf}
+use Rattle.bytes_tree.specs.Bytes.{bytes, valueAt}
+use Rattle.bytes_tree.specs.Sign.{unsigned, Levels32}
+use Rattle.bytes_tree.specs.Column.{numbersAt, levelsAt, columnOf}
+
+-- how many rows, and how many bytes
+abbrev pub treeRows : ℕ
+treeRows = 128
+
+abbrev pub treeBytes : ℕ
+treeBytes = 36356
+
+-- the places of the columns; the count is at 0 and the root at 2
+abbrev pub fieldsPlace : ℕ
+fieldsPlace = 4
+
+abbrev pub numbersPlace : ℕ
+numbersPlace = 2564
+
+abbrev pub levelsPlace : ℕ
+levelsPlace = 4612
+
+abbrev pub ancestorsPlace : ℕ
+ancestorsPlace = 5124
+
+-- count and root that bytes hold
+unfoldable pub stateIn : List ℕ → State
+stateIn b = record { count = valueAt 2 b 0; root = valueAt 2 b 2 }
+
+-- and the parts of the table
+unfoldable pub partsIn : List ℕ → Parts
+partsIn b = partsOf (numbersAt 2 1280 b fieldsPlace) (numbersAt 8 256 b numbersPlace) (levelsAt 128 b levelsPlace) (numbersAt 2 15616 b ancestorsPlace)
+
+-- a tree as bytes
+unfoldable pub encoded : State → Parts → List ℕ
+encoded s t =
+    bytes 2 (s .count) ++ (bytes 2 (s .root)
+    ++ (columnOf 2 (t .fields) ++ (columnOf 8 (t .numbers) ++ (columnOf 4 (map unsigned (t .levels)) ++ columnOf 2 (t .ancestors)))))
+
+-- the numbers of a list are below a limit
+abbrev pub Under : ℕ → List ℕ → Type 0
+Under limit l = (i : ℕ) → i < length l → getD l i 0 < limit
+
+-- the numbers of a tree fit the bytes that they are kept in
+pub record InBytes (s : State) (t : Parts) : Type 0 where
+  pub count : s .count < 65536
+  pub root : s .root < 65536
+  pub fields : Under 65536 (t .fields)
+  pub numbers : Under 18446744073709551616 (t .numbers)
+  pub levels : Levels32 (t .levels)
+  pub ancestors : Under 65536 (t .ancestors)

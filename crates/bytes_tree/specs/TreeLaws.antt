@@ -1,0 +1,80 @@
+-- The lengths of a byte tree's parts, and the stores that leave a tree in bytes.
+use mathlib.Core.Path.{_≡_, refl, ap, sym, _∙_}
+use mathlib.Core.List.{List, _++_, map}
+use Prim.Native.Nat.{ℕ, _+_, _*_}
+use native.Mathlib.Omega.{arith}
+use lib.IntN.{ℤ}
+use lib.ListN.{length, length-append, length-map}
+use lib.Seq.{sets}
+use Rattle.rows.specs.declared.state.State.{State}
+use Rattle.rows.specs.Row.{Parts, partsOf}
+use Rattle.rows.specs.Capacity.{Fits}
+use Rattle.set_up.specs.Tabulate.{length-tabulate}
+use Rattle.bytes_tree.specs.Bytes.{bytes, valueAt}
+use Rattle.bytes_tree.specs.BytesLaws.{sets-join, sets-all}
+use Rattle.bytes_tree.specs.Sign.{signed, unsigned}
+use Rattle.bytes_tree.specs.Column.{numbersAt, levelsAt, columnOf}
+use Rattle.bytes_tree.specs.ColumnLaws.{length-column}
+use Rattle.bytes_tree.specs.Tree.{treeRows, treeBytes, fieldsPlace, numbersPlace, levelsPlace, ancestorsPlace, partsIn, encoded}
+
+pub length-numbers : (w n : ℕ) (l : List ℕ) (place : ℕ) → length (numbersAt w n l place) ≡ n
+unfolding numbersAt
+length-numbers w n l place = length-tabulate (λ i. valueAt w l (place + i * w)) n
+
+pub length-levels : (n : ℕ) (l : List ℕ) (place : ℕ) → length (levelsAt n l place) ≡ n
+unfolding levelsAt
+length-levels n l place = length-tabulate (λ i. signed (valueAt 4 l (place + i * 4))) n
+
+-- the parts that bytes hold fit the capacity
+pub parts-fit : (b : List ℕ) → Fits treeRows (partsIn b)
+unfolding partsIn
+parts-fit b = record {
+  least = omega arith;
+  most = omega arith;
+  levels = length-levels 128 b _;
+  fields = length-numbers 2 1280 b _;
+  numbers = length-numbers 8 256 b _;
+  ancestors = length-numbers 2 15616 b _;
+}
+
+-- parts that were read one by one
+pub parts-read : (b : List ℕ) (t : Parts) {f m a : List ℕ} {l : List ℤ} → Fits treeRows t
+    → f ≡ numbersAt 2 (length (t .fields)) b fieldsPlace → m ≡ numbersAt 8 (length (t .numbers)) b numbersPlace
+    → l ≡ levelsAt (length (t .levels)) b levelsPlace → a ≡ numbersAt 2 (length (t .ancestors)) b ancestorsPlace → partsOf f m l a ≡ partsIn b
+unfolding partsIn
+parts-read b t h i j k n = rw (i, j, k, n, h .fields, h .numbers, h .levels, h .ancestors)
+
+-- a tree fills its bytes
+pub length-encoded : (s : State) (t : Parts) → Fits treeRows t → length (encoded s t) ≡ treeBytes
+unfolding encoded
+length-encoded s t f = simp (length-append, length-column, length-map, f .fields, f .numbers, f .levels, f .ancestors)
+
+-- The stores that leave a tree in bytes
+
+-- stores one after another, by their places
+sets-next : (us vs l : List ℕ) (i j : ℕ) → i + length us ≡ j → sets (sets l i us) j vs ≡ sets l i (us ++ vs)
+sets-next us vs l i j e = rw (← e) (sets-join us vs l i)
+
+pub tree-stored : (l : List ℕ) (s : State) (t : Parts) → length l ≡ treeBytes → Fits treeRows t
+    → sets (sets (sets (sets (sets (sets l 0 (bytes 2 (s .count))) 2 (bytes 2 (s .root))) fieldsPlace (columnOf 2 (t .fields))) numbersPlace (columnOf 8 (t .numbers)))
+    levelsPlace (columnOf 4 (map unsigned (t .levels)))) ancestorsPlace (columnOf 2 (t .ancestors)) ≡ encoded s t
+unfolding encoded
+tree-stored l s t e f =
+    let c = bytes 2 (s .count) in
+    let r = bytes 2 (s .root) in
+    let x = columnOf 2 (t .fields) in
+    let n = columnOf 8 (t .numbers) in
+    let v = columnOf 4 (map unsigned (t .levels)) in
+    let a = columnOf 2 (t .ancestors) in
+    let lx : length x ≡ 2560 = length-column 2 (t .fields) ∙ ap (λ (k : ℕ). k * 2) (f .fields) in
+    let ln : length n ≡ 2048 = length-column 8 (t .numbers) ∙ ap (λ (k : ℕ). k * 8) (f .numbers) in
+    let lv : length v ≡ 512 = length-column 4 (map unsigned (t .levels)) ∙ ap (λ (k : ℕ). k * 4) (length-map (t .levels) unsigned ∙ f .levels) in
+    let b2 = sets (sets l 0 c) 2 r in
+    let b3 = sets b2 fieldsPlace x in
+    let b4 = sets b3 numbersPlace n in
+    sets-next v a b4 levelsPlace ancestorsPlace (omega arith)
+    ∙ sets-next n (v ++ a) b3 numbersPlace levelsPlace (omega arith)
+    ∙ sets-next x (n ++ (v ++ a)) b2 fieldsPlace numbersPlace (omega arith)
+    ∙ sets-next r (x ++ (n ++ (v ++ a))) (sets l 0 c) 2 fieldsPlace refl
+    ∙ sets-next c (r ++ (x ++ (n ++ (v ++ a)))) l 0 2 refl
+    ∙ sets-all l (c ++ (r ++ (x ++ (n ++ (v ++ a))))) (e ∙ sym (length-encoded s t f))

@@ -1,0 +1,78 @@
+// A whole tree: its count, root and parts from bytes, and back.
+use crate::columns::read_levels;
+use crate::columns::read16;
+use crate::columns::read64;
+use crate::columns::write_levels;
+use crate::columns::write16;
+use crate::columns::write64;
+use crate::word::put16;
+use crate::word::word16;
+use rows::state::State;
+ghost use mathlib.Core.Path.{_≡_};
+ghost use lib.ListN.{length};
+ghost use Rattle.rows.specs.Row.{partsOf};
+ghost use Rattle.rows.specs.Capacity.{Fits};
+ghost use Rattle.bytes_tree.specs.Tree.{treeRows, treeBytes, stateIn, partsIn, encoded, InBytes};
+
+// The bytes of a tree, and the places of its columns.
+pub const BYTES: usize = 36356;
+
+const COUNT: usize = 0;
+
+const ROOT: usize = 2;
+
+const FIELDS: usize = 4;
+
+const NUMBERS: usize = 2564;
+
+const LEVELS: usize = 4612;
+
+const ANCESTORS: usize = 5124;
+
+pub fn read_state(b: &[u8]) -> State
+    requires { ⌜ length (now b) ≡ treeBytes ⌝ }
+    ensures { λ r. ⌜ r ≡ stateIn (now (b .entry)) ⌝ }
+{
+    State {
+        count: word16(b, COUNT),
+        root: word16(b, ROOT),
+    }
+}
+
+pub fn read_parts(
+    b: &[u8],
+    fields: &mut [u16],
+    numbers: &mut [u64],
+    levels: &mut [i32],
+    ancestors: &mut [u16],
+)
+    requires { ⌜ length (now b) ≡ treeBytes ⌝ }
+    requires { ⌜ Fits treeRows (partsOf (now fields) (now numbers) (now levels) (now ancestors)) ⌝ }
+    ensures { λ _. ⌜ partsOf (now (fields .exit)) (now (numbers .exit)) (now (levels .exit)) (now (ancestors .exit)) ≡ partsIn (now (b .entry)) ⌝ }
+{
+    read16(b, FIELDS, fields);
+    read64(b, NUMBERS, numbers);
+    read_levels(b, LEVELS, levels);
+    read16(b, ANCESTORS, ancestors);
+}
+
+pub fn write_tree(
+    b: &mut [u8],
+    state: State,
+    fields: &[u16],
+    numbers: &[u64],
+    levels: &[i32],
+    ancestors: &[u16],
+)
+    requires { ⌜ length (now b) ≡ treeBytes ⌝ }
+    requires { ⌜ Fits treeRows (partsOf (now fields) (now numbers) (now levels) (now ancestors)) ⌝ }
+    ensures bytes { λ _. ⌜ now (b .exit) ≡ encoded state (partsOf (now (fields .entry)) (now (numbers .entry)) (now (levels .entry)) (now (ancestors .entry))) ⌝ }
+    ensures range { λ _. ⌜ InBytes state (partsOf (now (fields .entry)) (now (numbers .entry)) (now (levels .entry)) (now (ancestors .entry))) ⌝ }
+{
+    put16(b, COUNT, state.count);
+    put16(b, ROOT, state.root);
+    write16(b, FIELDS, fields);
+    write64(b, NUMBERS, numbers);
+    write_levels(b, LEVELS, levels);
+    write16(b, ANCESTORS, ancestors);
+}

@@ -1,0 +1,13 @@
+pub mod Printed
+pub mod PrintedLaws
+pub mod Report
+pub mod ReportLaws
+pub mod Session
+pub mod SessionLaws
+pub mod Bounds
+pub mod Transcript
+pub mod PageLaws
+pub mod PlaceLaws
+pub mod TranscriptLaws
+pub mod WholeLaws
+pub mod Exact

@@ -1,0 +1,130 @@
+-- 01's cases marked *, as one table: the calls, and what they must give.
+use mathlib.Core.List.{List, [], _∷_, _++_}
+use Prim.Native.Nat.{ℕ, _*_}
+use lib.IntN.{ℤ, pos, negsuc}
+use lib.ListN.{replicate, take}
+use Rattle.rows.specs.Layout.{fieldStride, numberStride, entryStride}
+use Rattle.rows.specs.Row.{Parts, partsOf}
+use Rattle.rows.specs.Table.{start}
+use Rattle.rows.specs.Spans.{p, q, end}
+use Rattle.sequence.specs.Calls.{Call, leaf, root, question, Reply, refused, grown, answered}
+use Rattle.sequence.specs.Run.{Run, Fast, tableIn, run, totalIn, start as blankTable}
+
+-- the program's capacity
+abbrev pub capacity : ℕ
+capacity = 128
+
+abbrev pub lent : Parts
+lent =
+    partsOf (replicate (capacity * fieldStride) 0) (replicate (capacity * numberStride) 0) (replicate capacity (pos 0))
+    (replicate (capacity * entryStride) 0)
+
+abbrev pub scratch : List ℕ
+scratch = replicate capacity 0
+
+-- ---- what a case looks at
+
+-- a number of a row of the table
+pub data Number : Type 0 where
+  startOf : ℕ → Number
+  pOf : ℕ → Number
+  qOf : ℕ → Number
+  endOf : ℕ → Number
+
+abbrev pub read : Fast → Number → ℕ
+read f (startOf x) = start (tableIn f) x
+read f (pOf x) = p (tableIn f) x
+read f (qOf x) = q (tableIn f) x
+read f (endOf x) = end (tableIn f) x
+
+abbrev pub readAll : Fast → List Number → List ℕ
+readAll f [] = []
+readAll f (n ∷ ns) = read f n ∷ readAll f ns
+
+-- the replies, the rows renumbered by all calls, and after the last call the levels of all nodes and the numbers that are asked for
+pub record Seen : Type 0 where
+  pub replies : List Reply
+  pub total : ℕ
+  pub levels : List ℤ
+  pub numbers : List ℕ
+
+-- calls on an empty table, numbers to look at, and what must be seen
+pub record Case : Type 0 where
+  pub calls : List Call
+  pub asked : List Number
+  pub due : Seen
+
+abbrev pub seenIn : List Number → Run → Seen
+seenIn ns r =
+    record {
+      replies = r .replies;
+      total = totalIn (r .replies);
+      levels = take (r .last .state .count) (r .last .parts .levels);
+      numbers = readAll (r .last) ns;
+    }
+
+-- what the calls give, by the definitions that the contracts of the code name
+abbrev pub seen : Case → Seen
+seen c = seenIn (c .asked) (run (blankTable lent) (c .calls))
+
+-- ---- the table
+
+-- fields 1 to 3 of the log, and all seven
+abbrev pub threeFields : List Call
+threeFields = root scratch ∷ leaf 0 7 scratch ∷ leaf 1 9 scratch ∷ []
+
+abbrev pub sevenFields : List Call
+sevenFields = threeFields ++ question 1 2 ∷ leaf 5 7 scratch ∷ root scratch ∷ question 2 3 ∷ []
+
+abbrev pub threeReplies : List Reply
+threeReplies = grown 0 1 ∷ grown 1 2 ∷ grown 2 3 ∷ []
+
+abbrev pub sevenReplies : List Reply
+sevenReplies = threeReplies ++ answered 1 1 2 (pos 0) (pos 1) 7 ∷ refused 1 ∷ grown 3 4 ∷ answered 3 0 3 (pos 3) (pos 0) 0 ∷ []
+
+-- a root and leaves below it
+abbrev pub star : List Call
+star = root scratch ∷ leaf 0 1 scratch ∷ leaf 0 2 scratch ∷ leaf 0 3 scratch ∷ leaf 0 4 scratch ∷ leaf 0 5 scratch ∷ leaf 0 6 scratch ∷ []
+
+unfoldable pub cases : List Case
+cases =
+    -- the nine lines' seven calls
+    record {
+      calls = sevenFields;
+      asked = [];
+      due = record { replies = sevenReplies; total = 10; levels = pos 0 ∷ pos 1 ∷ pos 2 ∷ negsuc 0 ∷ []; numbers = [] };
+    }
+    -- the numbers of three nodes after field 3
+    ∷ record {
+      calls = threeFields;
+      asked = pOf 0 ∷ qOf 0 ∷ endOf 0 ∷ pOf 1 ∷ pOf 2 ∷ [];
+      due = record { replies = threeReplies; total = 6; levels = pos 0 ∷ pos 1 ∷ pos 2 ∷ []; numbers = 81 ∷ 324 ∷ 405 ∷ 82 ∷ 87 ∷ [] };
+    }
+    -- a root with five leaves, then a sixth, which renumbers 1 row and starts at 1,321
+    ∷ record {
+      calls = star;
+      asked = startOf 6 ∷ [];
+      due = record {
+        replies = grown 0 1 ∷ grown 1 2 ∷ grown 2 3 ∷ grown 3 4 ∷ grown 4 5 ∷ grown 5 6 ∷ grown 6 1 ∷ [];
+        total = 22;
+        levels = pos 0 ∷ pos 1 ∷ pos 1 ∷ pos 1 ∷ pos 1 ∷ pos 1 ∷ pos 1 ∷ [];
+        numbers = 1321 ∷ [];
+      };
+    }
+    -- every node of the seven calls with itself
+    ∷ record {
+      calls = sevenFields ++ question 0 0 ∷ question 1 1 ∷ question 2 2 ∷ question 3 3 ∷ [];
+      asked = [];
+      due = record {
+        replies = sevenReplies
+            ++ answered 0 0 0 (pos 0) (pos 0) 0
+            ∷ answered 1 1 1 (pos 0) (pos 0) 7
+            ∷ answered 2 2 2 (pos 0) (pos 0) 9
+            ∷ answered 3 3 3 (pos 0) (pos 0) 0
+            ∷ [];
+        total = 10;
+        levels = pos 0 ∷ pos 1 ∷ pos 2 ∷ negsuc 0 ∷ [];
+        numbers = [];
+      };
+    }
+    ∷ []

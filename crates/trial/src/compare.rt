@@ -1,0 +1,176 @@
+// Each answer of the engine against the naive one.
+use crate::naive::alike;
+use crate::naive::branch;
+use crate::naive::depth;
+use crate::naive::minus;
+use crate::naive::nca;
+use crate::naive::of;
+use crate::tally::Tally;
+use crate::tally::noted;
+use alike::Compared;
+use alike::same_labels;
+use query::Answer;
+use query::Answered;
+use query::characteristic_ancestors;
+use rows::refusal::number_of;
+use rows::state::State;
+
+fn signed(n: u16) -> i32 {
+    n as i32
+}
+
+fn steps(parents: &[u16], x: u16, a: u16) -> i32 {
+    signed(minus(depth(parents, x), depth(parents, a)))
+}
+
+fn is_answer(parents: &[u16], labels: &[u16], x: u16, y: u16, found: Answer) -> bool {
+    let a = nca(parents, x, y);
+    if found.nca != a {
+        return false;
+    }
+    if found.to_x != branch(parents, x, a) {
+        return false;
+    }
+    if found.to_y != branch(parents, y, a) {
+        return false;
+    }
+    if found.distance_x != steps(parents, x, a) {
+        return false;
+    }
+    if found.distance_y != steps(parents, y, a) {
+        return false;
+    }
+    found.label == of(labels, a)
+}
+
+fn are_nodes(count: u16, x: u16, y: u16) -> bool {
+    if count <= x {
+        return false;
+    }
+    y < count
+}
+
+fn agrees_on_query(
+    parents: &[u16],
+    labels: &[u16],
+    count: u16,
+    x: u16,
+    y: u16,
+    found: Answered,
+) -> bool {
+    let known = are_nodes(count, x, y);
+    match found {
+        Answered::Answer(a) => known && is_answer(parents, labels, x, y, a),
+        Answered::Refused(r) => !known && number_of(r) == 1,
+    }
+}
+
+fn agrees_on_labels(
+    parents: &[u16],
+    labels: &[u16],
+    count: u16,
+    x: u16,
+    y: u16,
+    found: Compared,
+) -> bool {
+    let known = are_nodes(count, x, y);
+    match found {
+        Compared::Same(same) => known && same == alike(parents, labels, x, y),
+        Compared::Refused(r) => !known && number_of(r) == 1,
+    }
+}
+
+// Question and alike for one pair.
+fn ask_pair(
+    fields: &[u16],
+    numbers: &[u64],
+    levels: &[i32],
+    ancestors: &[u16],
+    parents: &[u16],
+    labels: &[u16],
+    state: State,
+    tally: Tally,
+    x: u16,
+    y: u16,
+) -> Tally {
+    let answered = characteristic_ancestors(fields, numbers, levels, ancestors, state, x, y);
+    let asked = noted(
+        tally,
+        agrees_on_query(parents, labels, state.count, x, y, answered),
+        b'Q',
+        x,
+        y,
+    );
+    let compared = same_labels(fields, numbers, levels, ancestors, state, x, y);
+    noted(
+        asked,
+        agrees_on_labels(parents, labels, state.count, x, y, compared),
+        b'A',
+        x,
+        y,
+    )
+}
+
+// One node past the last, so that unknown nodes are asked too.
+const ASKED: u16 = 129;
+
+fn ask_row(
+    fields: &[u16],
+    numbers: &[u64],
+    levels: &[i32],
+    ancestors: &[u16],
+    parents: &[u16],
+    labels: &[u16],
+    state: State,
+    tally: Tally,
+    x: u16,
+) -> Tally {
+    let mut t = tally;
+    let mut y: u16 = 0;
+    while y < ASKED {
+        t = ask_pair(
+            fields,
+            numbers,
+            levels,
+            ancestors,
+            parents,
+            labels,
+            state,
+            t,
+            x,
+            y,
+        );
+        y += 1;
+    }
+    t
+}
+
+// Question and alike for every pair.
+pub fn ask_all(
+    fields: &[u16],
+    numbers: &[u64],
+    levels: &[i32],
+    ancestors: &[u16],
+    parents: &[u16],
+    labels: &[u16],
+    state: State,
+    tally: Tally,
+) -> Tally {
+    let mut t = tally;
+    let mut x: u16 = 0;
+    while x < ASKED {
+        t = ask_row(
+            fields,
+            numbers,
+            levels,
+            ancestors,
+            parents,
+            labels,
+            state,
+            t,
+            x,
+        );
+        x += 1;
+    }
+    t
+}

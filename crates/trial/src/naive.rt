@@ -1,0 +1,98 @@
+// Answers by walking from parent to parent.
+use crate::tree::CAPACITY;
+use crate::tree::NONE;
+
+// What stands for x in a column; none past its end.
+pub fn of(column: &[u16], x: u16) -> u16 {
+    let i = x as usize;
+    if i < column.len() {
+        return column[i];
+    }
+    NONE
+}
+
+pub fn minus(a: u16, b: u16) -> u16 {
+    if b <= a { a - b } else { 0 }
+}
+
+// How many steps lead from x to the root.
+pub fn depth(parents: &[u16], x: u16) -> u16 {
+    let mut at = of(parents, x);
+    let mut steps: u16 = 0;
+    while steps < CAPACITY {
+        if at == NONE {
+            return steps;
+        }
+        at = of(parents, at);
+        steps += 1;
+    }
+    steps
+}
+
+// The ancestor of x so many steps up.
+pub fn climb(parents: &[u16], x: u16, steps: u16) -> u16 {
+    let mut at = x;
+    let mut k: u16 = 0;
+    while k < steps {
+        at = of(parents, at);
+        k += 1;
+    }
+    at
+}
+
+// Where the lines of x and y, equally deep, meet.
+fn meet(parents: &[u16], x: u16, y: u16) -> u16 {
+    let mut a = x;
+    let mut b = y;
+    let mut k: u16 = 0;
+    while k < CAPACITY {
+        if a == b {
+            return a;
+        }
+        a = of(parents, a);
+        b = of(parents, b);
+        k += 1;
+    }
+    a
+}
+
+// The deepest common ancestor.
+pub fn nca(parents: &[u16], x: u16, y: u16) -> u16 {
+    let dx = depth(parents, x);
+    let dy = depth(parents, y);
+    let a = climb(parents, x, minus(dx, dy));
+    let b = climb(parents, y, minus(dy, dx));
+    meet(parents, a, b)
+}
+
+// The ancestor of x just below its ancestor a; a where a is x.
+pub fn branch(parents: &[u16], x: u16, a: u16) -> u16 {
+    let steps = minus(depth(parents, x), depth(parents, a));
+    climb(parents, x, minus(steps, 1))
+}
+
+// Whether so many labels of x and its ancestors are those of y and its ancestors.
+fn equal_labels(parents: &[u16], labels: &[u16], x: u16, y: u16, steps: u16) -> bool {
+    let mut a = x;
+    let mut b = y;
+    let mut k: u16 = 0;
+    while k < steps {
+        if of(labels, a) != of(labels, b) {
+            return false;
+        }
+        a = of(parents, a);
+        b = of(parents, b);
+        k += 1;
+    }
+    true
+}
+
+// Whether the labels from the root's child down to x are those down to y.
+pub fn alike(parents: &[u16], labels: &[u16], x: u16, y: u16) -> bool {
+    let dx = depth(parents, x);
+    let dy = depth(parents, y);
+    if dx != dy {
+        return false;
+    }
+    equal_labels(parents, labels, x, y, dx)
+}

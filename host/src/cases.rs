@@ -1,0 +1,70 @@
+//! Document 01's cases that are not starred, and parts that do not fit.
+
+use crate::engine::{Table, ENTRIES, FIELDS, NUMBERS};
+use crate::lent::Lent;
+use crate::tally::{check, equal};
+
+/// Capacities 0, 1, 32,768 and 32,769.
+pub fn capacities() -> String {
+    for (capacity, expected) in [(0, Err(3)), (1, Ok(())), (32768, Ok(())), (32769, Err(3))] {
+        let mut table = Table::new(capacity, true);
+        equal(table.set_up(), expected, || format!("set-up at capacity {capacity}"));
+        let mut scratch = Lent::new(capacity, 0);
+        equal(table.inspect(&mut scratch), expected.map(|_| 1), || format!("inspection at capacity {capacity}"));
+        equal(table.add_root(&scratch).map(|_| ()), expected, || format!("new root at capacity {capacity}"));
+        let asked = table.query(0, 0).map(|_| ());
+        equal(asked, expected, || format!("question at capacity {capacity}"));
+        equal(table.alike(0, 0).map(|_| ()), expected, || format!("alike at capacity {capacity}"));
+    }
+    "4 tables".into()
+}
+
+/// Each part in turn one element short or long.
+pub fn misfits() -> String {
+    let good = {
+        let mut table = Table::new(8, true);
+        equal(table.set_up(), Ok(()), || "set-up".into());
+        equal(table.add_root(&Lent::new(8, 0)).map(|g| g.node), Ok(0), || "new root".into());
+        table
+    };
+    for part in 0..4 {
+        for change in [-1, 1] {
+            let mut table = good.clone();
+            let len = |n: usize| (n as i64 + change) as usize;
+            match part {
+                0 => table.fields = Lent::new(len(8 * FIELDS), 0),
+                1 => table.numbers = Lent::new(len(8 * NUMBERS), 0),
+                2 => table.levels = Lent::new(len(8), 0),
+                _ => table.ancestors = Lent::new(len(8 * ENTRIES), 0),
+            }
+            let mut scratch = Lent::new(8, 0);
+            let what = || format!("part {part} by {change}");
+            equal(table.add_leaf(&scratch, 9, 0).map(|_| ()), Err(3), what);
+            equal(table.add_root(&scratch).map(|_| ()), Err(3), what);
+            equal(table.query(9, 9).map(|_| ()), Err(3), what);
+            equal(table.alike(9, 9).map(|_| ()), Err(3), what);
+            equal(table.inspect(&mut scratch).map(|_| ()), Err(3), what);
+            equal(table.set_up(), Err(3), what);
+        }
+    }
+    "8 tables".into()
+}
+
+/// Labels 9,999 and 10,000; the 128th and 129th node.
+pub fn limits() -> String {
+    let (mut table, scratch) = (Table::new(128, true), Lent::new(128, 0));
+    equal(table.set_up(), Ok(()), || "set-up".into());
+    equal(table.add_leaf(&scratch, 0, 1).map(|g| g.node), Err(1), || "leaf of an empty tree".into());
+    equal(table.add_root(&scratch).map(|g| g.node), Ok(0), || "new root".into());
+    equal(table.add_leaf(&scratch, 0, 9999).map(|g| g.node), Ok(1), || "label 9,999".into());
+    equal(table.add_leaf(&scratch, 0, 10000).map(|g| g.node), Err(5), || "label 10,000".into());
+    equal(table.add_leaf(&scratch, 0, 0).map(|g| g.node), Err(5), || "label 0".into());
+    for node in 2..128 {
+        equal(table.add_leaf(&scratch, node / 2, 1).map(|g| g.node), Ok(node), || format!("node {node}"));
+    }
+    equal(table.add_leaf(&scratch, 0, 1).map(|g| g.node), Err(2), || "129th node".into());
+    equal(table.add_root(&scratch).map(|g| g.node), Err(2), || "129th node as root".into());
+    check(table.count == 128, || "count".into());
+    equal(table.query(5, 5), Ok([5, 5, 5, 0, 0, 1]), || "a node with itself".into());
+    "1 table".into()
+}

@@ -1,0 +1,387 @@
+//! The engine's table form (include/vundreli.h), each call checked: guards untouched, and on a refusal nothing stored.
+
+use crate::lent::{Lent, Word};
+use crate::random::Random;
+use crate::tally::check;
+
+pub const NONE: u16 = 65535;
+pub const FIELDS: usize = 10;
+pub const NUMBERS: usize = 2;
+pub const ENTRIES: usize = 122;
+
+mod raw {
+    #[link(name = "desk", kind = "static")]
+    extern "C" {
+        pub fn nca_table_set_up(
+            fields: *mut u16,
+            fields_len: usize,
+            numbers: *mut u64,
+            numbers_len: usize,
+            levels: *mut i32,
+            levels_len: usize,
+            ancestors: *mut u16,
+            ancestors_len: usize,
+            out: *mut u16,
+            out_len: usize,
+        ) -> u16;
+        pub fn nca_table_add_leaf(
+            fields: *mut u16,
+            fields_len: usize,
+            numbers: *mut u64,
+            numbers_len: usize,
+            levels: *mut i32,
+            levels_len: usize,
+            ancestors: *mut u16,
+            ancestors_len: usize,
+            scratch: *const u16,
+            scratch_len: usize,
+            count: u16,
+            root: u16,
+            parent: u16,
+            label: u16,
+            out: *mut u16,
+            out_len: usize,
+        ) -> u16;
+        pub fn nca_table_add_root(
+            fields: *mut u16,
+            fields_len: usize,
+            numbers: *mut u64,
+            numbers_len: usize,
+            levels: *mut i32,
+            levels_len: usize,
+            ancestors: *mut u16,
+            ancestors_len: usize,
+            scratch: *const u16,
+            scratch_len: usize,
+            count: u16,
+            root: u16,
+            out: *mut u16,
+            out_len: usize,
+        ) -> u16;
+        pub fn nca_table_query(
+            fields: *const u16,
+            fields_len: usize,
+            numbers: *const u64,
+            numbers_len: usize,
+            levels: *const i32,
+            levels_len: usize,
+            ancestors: *const u16,
+            ancestors_len: usize,
+            count: u16,
+            root: u16,
+            x: u16,
+            y: u16,
+            out: *mut i32,
+            out_len: usize,
+        ) -> u16;
+        pub fn nca_table_alike(
+            fields: *const u16,
+            fields_len: usize,
+            numbers: *const u64,
+            numbers_len: usize,
+            levels: *const i32,
+            levels_len: usize,
+            ancestors: *const u16,
+            ancestors_len: usize,
+            count: u16,
+            root: u16,
+            x: u16,
+            y: u16,
+            out: *mut u16,
+            out_len: usize,
+        ) -> u16;
+        pub fn nca_table_inspect(
+            fields: *const u16,
+            fields_len: usize,
+            numbers: *const u64,
+            numbers_len: usize,
+            levels: *const i32,
+            levels_len: usize,
+            ancestors: *const u16,
+            ancestors_len: usize,
+            scratch: *mut u16,
+            scratch_len: usize,
+            count: u16,
+            root: u16,
+            out: *mut u16,
+            out_len: usize,
+        ) -> u16;
+    }
+}
+
+/// A table's lent parts, its count and its root.
+#[derive(Clone)]
+pub struct Table {
+    pub fields: Lent<u16>,
+    pub numbers: Lent<u64>,
+    pub levels: Lent<i32>,
+    pub ancestors: Lent<u16>,
+    pub count: u16,
+    pub root: u16,
+    /// Whether every call compares all parts with a copy made before it: for small tables.
+    pub watched: bool,
+}
+
+#[derive(Clone, Copy, PartialEq, Debug)]
+pub struct Grown {
+    pub node: u16,
+    pub rows: u16,
+}
+
+/// What a call says, or 01's refusal number.
+pub type Reply<T> = Result<T, u16>;
+
+impl Table {
+    /// Parts that fit a capacity, all zero.
+    pub fn new(capacity: usize, watched: bool) -> Table {
+        Table {
+            fields: Lent::new(FIELDS * capacity, 0),
+            numbers: Lent::new(NUMBERS * capacity, 0),
+            levels: Lent::new(capacity, 0),
+            ancestors: Lent::new(ENTRIES * capacity, 0),
+            count: 0,
+            root: NONE,
+            watched,
+        }
+    }
+
+    /// An empty table in parts that were filled with anything.
+    pub fn set_up_over(capacity: usize, watched: bool, random: &mut Random) -> Table {
+        let mut table = Table::new(capacity, watched);
+        table.fields.part_mut().iter_mut().for_each(|c| *c = random.word() as u16);
+        table.numbers.part_mut().iter_mut().for_each(|c| *c = random.word());
+        table.levels.part_mut().iter_mut().for_each(|c| *c = random.word() as i32);
+        table.ancestors.part_mut().iter_mut().for_each(|c| *c = random.word() as u16);
+        let reply = table.set_up();
+        check(reply == Ok(()) && table.is_empty(), || format!("set-up at capacity {capacity} gave {reply:?}"));
+        table
+    }
+
+    fn is_empty(&self) -> bool {
+        let fields = self.fields.part().chunks(FIELDS).all(|row| row == [NONE, NONE, NONE, NONE, NONE, NONE, 0, 0, 0, 0]);
+        let numbers = self.numbers.part().iter().all(|c| *c == 0) && self.levels.part().iter().all(|c| *c == 0);
+        fields && numbers && self.ancestors.part().iter().all(|c| *c == NONE) && self.count == 0 && self.root == NONE
+    }
+
+    pub fn same_parts(&self, other: &Table) -> bool {
+        self.fields.part() == other.fields.part()
+            && self.numbers.part() == other.numbers.part()
+            && self.levels.part() == other.levels.part()
+            && self.ancestors.part() == other.ancestors.part()
+    }
+
+    fn is_guarded(&self) -> bool {
+        self.fields.is_guarded() && self.numbers.is_guarded() && self.levels.is_guarded() && self.ancestors.is_guarded()
+    }
+
+    fn copy(&self) -> Option<Table> {
+        self.watched.then(|| self.clone())
+    }
+
+    /// What holds after every call: guards as they were, parts too where the call stores nothing.
+    fn after<T: Word>(&self, call: &str, code: u16, before: Option<Table>, stores: bool, out: &Lent<T>) {
+        check(self.is_guarded() && out.is_guarded(), || format!("{call} touched a guard"));
+        check(code <= 5, || format!("{call} gave {code}"));
+        if code != 0 {
+            check(out.part().iter().all(|c| *c == T::MARK), || format!("{call} refused by {code} and stored an answer"));
+        }
+        if let Some(before) = before {
+            check((stores && code == 0) || self.same_parts(&before), || format!("{call} gave {code} and changed a part"));
+        }
+    }
+
+    pub fn set_up(&mut self) -> Reply<()> {
+        let (before, mut out) = (self.copy(), Lent::<u16>::marked(2));
+        let code = unsafe {
+            let (f, n, l, a, o) =
+                (self.fields.part_mut(), self.numbers.part_mut(), self.levels.part_mut(), self.ancestors.part_mut(), out.part_mut());
+            raw::nca_table_set_up(
+                f.as_mut_ptr(),
+                f.len(),
+                n.as_mut_ptr(),
+                n.len(),
+                l.as_mut_ptr(),
+                l.len(),
+                a.as_mut_ptr(),
+                a.len(),
+                o.as_mut_ptr(),
+                o.len(),
+            )
+        };
+        self.after("set-up", code, before, true, &out);
+        self.served(code, &out).map(|_| ())
+    }
+
+    /// Takes over count and root of a served growth or set-up.
+    fn served(&mut self, code: u16, out: &Lent<u16>) -> Reply<()> {
+        if code != 0 {
+            return Err(code);
+        }
+        (self.count, self.root) = (out.part()[0], out.part()[1]);
+        Ok(())
+    }
+
+    pub fn add_leaf(&mut self, scratch: &Lent<u16>, parent: u16, label: u16) -> Reply<Grown> {
+        let (before, kept, mut out) = (self.copy(), self.watched.then(|| scratch.clone()), Lent::<u16>::marked(4));
+        let code = unsafe {
+            let s = scratch.part();
+            let (f, n, l, a, o) =
+                (self.fields.part_mut(), self.numbers.part_mut(), self.levels.part_mut(), self.ancestors.part_mut(), out.part_mut());
+            raw::nca_table_add_leaf(
+                f.as_mut_ptr(),
+                f.len(),
+                n.as_mut_ptr(),
+                n.len(),
+                l.as_mut_ptr(),
+                l.len(),
+                a.as_mut_ptr(),
+                a.len(),
+                s.as_ptr(),
+                s.len(),
+                self.count,
+                self.root,
+                parent,
+                label,
+                o.as_mut_ptr(),
+                o.len(),
+            )
+        };
+        self.grown("leaf", code, before, scratch, kept, &out)
+    }
+
+    pub fn add_root(&mut self, scratch: &Lent<u16>) -> Reply<Grown> {
+        let (before, kept, mut out) = (self.copy(), self.watched.then(|| scratch.clone()), Lent::<u16>::marked(4));
+        let code = unsafe {
+            let s = scratch.part();
+            let (f, n, l, a, o) =
+                (self.fields.part_mut(), self.numbers.part_mut(), self.levels.part_mut(), self.ancestors.part_mut(), out.part_mut());
+            raw::nca_table_add_root(
+                f.as_mut_ptr(),
+                f.len(),
+                n.as_mut_ptr(),
+                n.len(),
+                l.as_mut_ptr(),
+                l.len(),
+                a.as_mut_ptr(),
+                a.len(),
+                s.as_ptr(),
+                s.len(),
+                self.count,
+                self.root,
+                o.as_mut_ptr(),
+                o.len(),
+            )
+        };
+        self.grown("new root", code, before, scratch, kept, &out)
+    }
+
+    fn grown(
+        &mut self,
+        call: &str,
+        code: u16,
+        before: Option<Table>,
+        scratch: &Lent<u16>,
+        kept: Option<Lent<u16>>,
+        out: &Lent<u16>,
+    ) -> Reply<Grown> {
+        self.after(call, code, before, true, out);
+        check(scratch.is_guarded(), || format!("{call} touched a guard of the scratch"));
+        if let Some(kept) = kept {
+            check(code == 0 || kept.part() == scratch.part(), || format!("{call} gave {code} and changed the scratch"));
+        }
+        self.served(code, out).map(|_| Grown { node: out.part()[2], rows: out.part()[3] })
+    }
+
+    /// Nearest common ancestor, branches, distances and label.
+    pub fn query(&self, x: u16, y: u16) -> Reply<[i32; 6]> {
+        let (before, mut out) = (self.copy(), Lent::<i32>::marked(6));
+        let code = unsafe {
+            let (f, n, l, a) = (self.fields.part(), self.numbers.part(), self.levels.part(), self.ancestors.part());
+            let o = out.part_mut();
+            raw::nca_table_query(
+                f.as_ptr(),
+                f.len(),
+                n.as_ptr(),
+                n.len(),
+                l.as_ptr(),
+                l.len(),
+                a.as_ptr(),
+                a.len(),
+                self.count,
+                self.root,
+                x,
+                y,
+                o.as_mut_ptr(),
+                o.len(),
+            )
+        };
+        self.after("question", code, before, false, &out);
+        if code == 0 {
+            Ok(out.part().try_into().unwrap())
+        } else {
+            Err(code)
+        }
+    }
+
+    pub fn alike(&self, x: u16, y: u16) -> Reply<u16> {
+        let (before, mut out) = (self.copy(), Lent::<u16>::marked(1));
+        let code = unsafe {
+            let (f, n, l, a) = (self.fields.part(), self.numbers.part(), self.levels.part(), self.ancestors.part());
+            let o = out.part_mut();
+            raw::nca_table_alike(
+                f.as_ptr(),
+                f.len(),
+                n.as_ptr(),
+                n.len(),
+                l.as_ptr(),
+                l.len(),
+                a.as_ptr(),
+                a.len(),
+                self.count,
+                self.root,
+                x,
+                y,
+                o.as_mut_ptr(),
+                o.len(),
+            )
+        };
+        self.after("alike", code, before, false, &out);
+        if code == 0 {
+            Ok(out.part()[0])
+        } else {
+            Err(code)
+        }
+    }
+
+    pub fn inspect(&self, scratch: &mut Lent<u16>) -> Reply<u16> {
+        let (before, kept, mut out) = (self.copy(), scratch.clone(), Lent::<u16>::marked(1));
+        let code = unsafe {
+            let (f, n, l, a) = (self.fields.part(), self.numbers.part(), self.levels.part(), self.ancestors.part());
+            let (s, o) = (scratch.part_mut(), out.part_mut());
+            raw::nca_table_inspect(
+                f.as_ptr(),
+                f.len(),
+                n.as_ptr(),
+                n.len(),
+                l.as_ptr(),
+                l.len(),
+                a.as_ptr(),
+                a.len(),
+                s.as_mut_ptr(),
+                s.len(),
+                self.count,
+                self.root,
+                o.as_mut_ptr(),
+                o.len(),
+            )
+        };
+        self.after("inspection", code, before, false, &out);
+        check(scratch.is_guarded(), || "inspection touched a guard of the scratch".into());
+        check(code == 0 || kept.part() == scratch.part(), || format!("inspection gave {code} and changed the scratch"));
+        if code == 0 {
+            Ok(out.part()[0])
+        } else {
+            Err(code)
+        }
+    }
+}

@@ -1,0 +1,157 @@
+//! The log program on good and damaged logs, against a reader and a printer written apart.
+
+use std::io::Write;
+use std::process::{Command, Stdio};
+
+use crate::plain::Plain;
+use crate::random::Random;
+use crate::stored::Stored;
+use crate::tally::equal;
+
+const CAPACITY: usize = 128;
+const LONGEST: usize = 16_384;
+const LOGS: usize = 1_500;
+const PROGRAM: &str = "target/bin/echo";
+
+/// What document 01's program prints for a log.
+struct Printer {
+    plain: Plain,
+    stored: Stored,
+    total: u64,
+    text: String,
+}
+
+impl Printer {
+    fn line(&mut self, ordinal: usize, letter: char, values: &[i32]) {
+        self.text += &format!("{ordinal} {letter}");
+        values.iter().for_each(|v| self.text += &format!(" {v}"));
+        self.text += "\n";
+    }
+
+    fn grown(&mut self, ordinal: usize, letter: char, reply: Result<u16, u16>, parent: Option<u16>, label: u16) {
+        match reply {
+            Err(code) => self.line(ordinal, 'R', &[i32::from(code)]),
+            Ok(node) => {
+                let grown = match parent {
+                    None => self.stored.add_root(),
+                    Some(parent) => self.stored.add_leaf(parent, label),
+                };
+                self.total += u64::from(grown.rows);
+                let level = self.stored.rows[node as usize].level;
+                self.line(ordinal, letter, &[i32::from(node), level, i32::from(grown.rows)]);
+            }
+        }
+    }
+
+    fn field(&mut self, ordinal: usize, tag: u8, body: &[u8]) {
+        let number = |i: usize| u16::from_be_bytes([body[i], body[i + 1]]);
+        match (tag, body.len()) {
+            (1, 4) => {
+                let reply = self.plain.add_leaf(CAPACITY, number(0), number(2));
+                self.grown(ordinal, 'L', reply, Some(number(0)), number(2));
+            }
+            (2, 0) => {
+                let reply = self.plain.add_root(CAPACITY);
+                self.grown(ordinal, 'T', reply, None, 0);
+            }
+            (3, 4) => match self.plain.query(number(0), number(2)) {
+                Err(code) => self.line(ordinal, 'R', &[i32::from(code)]),
+                Ok(values) => self.line(ordinal, 'Q', &values),
+            },
+            (4, 4) => match self.plain.alike(number(0), number(2)) {
+                Err(code) => self.line(ordinal, 'R', &[i32::from(code)]),
+                Ok(value) => self.line(ordinal, 'A', &[i32::from(value)]),
+            },
+            (1..=4, _) => self.line(ordinal, 'R', &[7]),
+            (9, _) if body.iter().all(|b| *b == 0) => (),
+            (9, _) => self.line(ordinal, 'R', &[9]),
+            _ => self.line(ordinal, 'R', &[6]),
+        }
+    }
+}
+
+fn listing(log: &[u8]) -> String {
+    let log = &log[..log.len().min(LONGEST)];
+    let mut printer = Printer { plain: Plain::new(CAPACITY), stored: Stored::new(), total: 0, text: format!("echo {CAPACITY}\n") };
+    let (mut at, mut ordinal) = (0, 1);
+    while at < log.len() {
+        let rest = &log[at..];
+        let length = if rest.len() < 3 { LONGEST } else { usize::from(u16::from_be_bytes([rest[1], rest[2]])) };
+        if rest.len() < 3 || rest.len() - 3 < length {
+            printer.line(ordinal, 'R', &[8]);
+            break;
+        }
+        printer.field(ordinal, rest[0], &rest[3..3 + length]);
+        at += 3 + length;
+        ordinal += 1;
+    }
+    let (count, total) = (printer.plain.count(), printer.total);
+    printer.text + &format!("end {count} {total}\n")
+}
+
+/// A log of fields that mostly make sense.
+fn log(fields: usize, random: &mut Random) -> Vec<u8> {
+    let (mut bytes, mut nodes) = (Vec::new(), 0usize);
+    for _ in 0..fields {
+        let mut node = || if random.one_in(16) { random.word() as u16 } else { random.below(nodes.min(CAPACITY).max(1)) as u16 };
+        let (x, y) = (node(), node());
+        let label = if random.one_in(16) { [0, 9999, 10000][random.below(3)] } else { 1 + random.below(2) as u16 };
+        let kind = if nodes == 0 { 4 } else { random.below(9) };
+        let (tag, body) = match kind {
+            0..=3 => (1, [x.to_be_bytes(), label.to_be_bytes()].concat()),
+            4 => (2, Vec::new()),
+            5 | 6 => (3, [x.to_be_bytes(), y.to_be_bytes()].concat()),
+            7 => (4, [x.to_be_bytes(), y.to_be_bytes()].concat()),
+            _ => (9, vec![0; random.below(6)]),
+        };
+        nodes += usize::from(kind <= 4);
+        bytes.push(tag);
+        bytes.extend((body.len() as u16).to_be_bytes());
+        bytes.extend(body);
+    }
+    bytes
+}
+
+/// Bytes overwritten, taken out or put in, and the end cut off.
+fn damage(log: &mut Vec<u8>, random: &mut Random) {
+    for _ in 0..random.below(5) {
+        let place = random.below(log.len());
+        match random.below(4) {
+            0 => log[place] = random.word() as u8,
+            1 => log[place] = random.below(10) as u8,
+            2 => drop(log.remove(place)),
+            _ => log.insert(place, random.below(3) as u8),
+        }
+    }
+    if random.one_in(3) {
+        log.truncate(random.below(log.len() + 1));
+    }
+}
+
+/// What the program prints. It may leave the end of a long log unread.
+fn run(log: &[u8]) -> String {
+    let mut child = Command::new(PROGRAM).stdin(Stdio::piped()).stdout(Stdio::piped()).spawn().expect(PROGRAM);
+    let _ = child.stdin.take().expect("stdin").write_all(log);
+    let output = child.wait_with_output().expect(PROGRAM);
+    String::from_utf8_lossy(&output.stdout).into_owned()
+}
+
+fn compare(log: &[u8]) {
+    let (found, expected) = (run(log), listing(log));
+    let first = found.lines().zip(expected.lines()).find(|(f, e)| f != e);
+    equal(&found, &expected, || format!("a log of {} bytes, first at {first:?}", log.len()));
+}
+
+pub fn logs() -> String {
+    let mut random = Random::new(8);
+    compare(&[]);
+    for round in 0..LOGS {
+        let fields = [10, 40, 200, 1000, 4000][round % 5];
+        let mut bytes = log(fields, &mut random);
+        if round % 4 != 0 {
+            damage(&mut bytes, &mut random);
+        }
+        compare(&bytes);
+    }
+    format!("{LOGS} logs and the empty one")
+}

@@ -1,0 +1,58 @@
+//! Tests of the engine from a host, over the static library: random lists of calls against naive models, damaged tables, trees and
+//! logs, and document 01's cases.
+//! Prints a line for each group and, last, how many passed; the exit status says whether all did.
+
+mod cases;
+mod damage;
+mod engine;
+mod lent;
+mod lists;
+mod logs;
+mod plain;
+mod powers;
+mod random;
+mod rules;
+mod stored;
+mod tally;
+mod trees;
+mod variants;
+
+use std::process::ExitCode;
+use std::time::Instant;
+
+/// A group of tests, and what it says of itself beside its counts.
+const GROUPS: [(&str, fn() -> String); 12] = [
+    ("capacities 0, 1, 32,768 and 32,769", cases::capacities),
+    ("parts that do not fit", cases::misfits),
+    ("labels and the last node", cases::limits),
+    ("lists of calls at capacities to 20", lists::small),
+    ("lists of calls at capacities to 1,024", lists::middle),
+    ("lists of calls at capacities to 32,768", lists::large),
+    ("damaged tables", damage::tables),
+    ("tables that no list of calls makes", damage::unreachable),
+    ("byte trees that do not fit", trees::misfits),
+    ("lists of calls on byte trees", trees::lists),
+    ("damaged byte trees", trees::damaged),
+    ("good and damaged logs", logs::logs),
+];
+
+fn main() -> ExitCode {
+    let (mut passed, mut failed) = (0, 0);
+    for (name, run) in GROUPS {
+        let (compared, different, began) = (tally::counts().0, tally::counts().1, Instant::now());
+        let said = run();
+        let (compared, different) = (tally::counts().0 - compared, tally::counts().1 - different);
+        println!("{name}: {said}, {compared} comparisons, {different} differences, {:.1} s", began.elapsed().as_secs_f64());
+        if different == 0 {
+            passed += 1
+        } else {
+            failed += 1
+        }
+    }
+    println!("host: {passed} passed, {failed} failed");
+    if failed == 0 {
+        ExitCode::SUCCESS
+    } else {
+        ExitCode::FAILURE
+    }
+}

@@ -1,0 +1,202 @@
+//! Byte trees of capacity 128 (docs/FORMAT.md): every call has the outcome of the table form on the decoded tree, good or damaged.
+
+use crate::engine::{Reply, Table};
+use crate::lent::Lent;
+use crate::random::Random;
+use crate::tally::{check, equal};
+
+const CAPACITY: usize = 128;
+const BYTES: usize = 36_356;
+const LISTS: usize = 12;
+const DAMAGED: usize = 10_000;
+
+mod raw {
+    extern "C" {
+        pub fn nca_set_up(tree: *mut u8, tree_len: usize) -> u16;
+        pub fn nca_add_leaf(tree: *mut u8, tree_len: usize, parent: u16, label: u16, out: *mut u8, out_len: usize) -> u16;
+        pub fn nca_add_root(tree: *mut u8, tree_len: usize, out: *mut u8, out_len: usize) -> u16;
+        pub fn nca_query(tree: *const u8, tree_len: usize, x: u16, y: u16, out: *mut u8, out_len: usize) -> u16;
+    }
+}
+
+/// A tree's bytes: count, root, fields, numbers, levels, ancestor entries, low byte first.
+fn encode(t: &Table) -> Vec<u8> {
+    let mut bytes = Vec::with_capacity(BYTES);
+    bytes.extend(t.count.to_le_bytes());
+    bytes.extend(t.root.to_le_bytes());
+    t.fields.part().iter().for_each(|c| bytes.extend(c.to_le_bytes()));
+    t.numbers.part().iter().for_each(|c| bytes.extend(c.to_le_bytes()));
+    t.levels.part().iter().for_each(|c| bytes.extend(c.to_le_bytes()));
+    t.ancestors.part().iter().for_each(|c| bytes.extend(c.to_le_bytes()));
+    bytes
+}
+
+fn decode(bytes: &[u8]) -> Table {
+    let mut t = Table::new(CAPACITY, false);
+    let mut rest = bytes;
+    let mut take = |n: usize| {
+        let (word, after) = rest.split_at(n);
+        rest = after;
+        word.to_vec()
+    };
+    t.count = u16::from_le_bytes(take(2).try_into().unwrap());
+    t.root = u16::from_le_bytes(take(2).try_into().unwrap());
+    t.fields.part_mut().iter_mut().for_each(|c| *c = u16::from_le_bytes(take(2).try_into().unwrap()));
+    t.numbers.part_mut().iter_mut().for_each(|c| *c = u64::from_le_bytes(take(8).try_into().unwrap()));
+    t.levels.part_mut().iter_mut().for_each(|c| *c = i32::from_le_bytes(take(4).try_into().unwrap()));
+    t.ancestors.part_mut().iter_mut().for_each(|c| *c = u16::from_le_bytes(take(2).try_into().unwrap()));
+    t
+}
+
+struct Tree {
+    bytes: Lent<u8>,
+}
+
+impl Tree {
+    fn of(bytes: &[u8]) -> Tree {
+        let mut lent = Lent::new(bytes.len(), 0);
+        lent.part_mut().copy_from_slice(bytes);
+        Tree { bytes: lent }
+    }
+
+    /// Guards as they were; on a refusal the answer too.
+    fn after(&self, call: &str, code: u16, out: &Lent<u8>) {
+        check(self.bytes.is_guarded() && out.is_guarded(), || format!("{call} on bytes touched a guard"));
+        check(code == 0 || out.part() == Lent::<u8>::marked(out.part().len()).part(), || format!("{call} on bytes refused and answered"));
+    }
+
+    fn set_up(&mut self) -> Reply<()> {
+        let tree = self.bytes.part_mut();
+        let code = unsafe { raw::nca_set_up(tree.as_mut_ptr(), tree.len()) };
+        self.after("set-up", code, &Lent::marked(0));
+        if code == 0 {
+            Ok(())
+        } else {
+            Err(code)
+        }
+    }
+
+    fn add_leaf(&mut self, parent: u16, label: u16, len: usize) -> Reply<[u16; 2]> {
+        let (mut out, tree) = (Lent::<u8>::marked(len), self.bytes.part_mut());
+        let o = out.part_mut();
+        let code = unsafe { raw::nca_add_leaf(tree.as_mut_ptr(), tree.len(), parent, label, o.as_mut_ptr(), o.len()) };
+        self.after("leaf", code, &out);
+        if code == 0 {
+            Ok(grown(out.part()))
+        } else {
+            Err(code)
+        }
+    }
+
+    fn add_root(&mut self, len: usize) -> Reply<[u16; 2]> {
+        let (mut out, tree) = (Lent::<u8>::marked(len), self.bytes.part_mut());
+        let o = out.part_mut();
+        let code = unsafe { raw::nca_add_root(tree.as_mut_ptr(), tree.len(), o.as_mut_ptr(), o.len()) };
+        self.after("new root", code, &out);
+        if code == 0 {
+            Ok(grown(out.part()))
+        } else {
+            Err(code)
+        }
+    }
+
+    fn query(&self, x: u16, y: u16, len: usize) -> Reply<[i32; 6]> {
+        let (mut out, tree) = (Lent::<u8>::marked(len), self.bytes.part());
+        let o = out.part_mut();
+        let code = unsafe { raw::nca_query(tree.as_ptr(), tree.len(), x, y, o.as_mut_ptr(), o.len()) };
+        self.after("question", code, &out);
+        if code != 0 {
+            return Err(code);
+        }
+        let o = out.part();
+        let short = |i: usize| i32::from(u16::from_le_bytes([o[i], o[i + 1]]));
+        let long = |i: usize| i32::from_le_bytes(o[i..i + 4].try_into().unwrap());
+        Ok([short(0), short(2), short(4), long(6), long(10), short(14)])
+    }
+}
+
+fn grown(out: &[u8]) -> [u16; 2] {
+    [u16::from_le_bytes([out[0], out[1]]), u16::from_le_bytes([out[2], out[3]])]
+}
+
+/// One growth and one question on both forms; the tree after it is the table after it.
+fn step(tree: &mut Tree, random: &mut Random) {
+    let (mut table, scratch) = (decode(tree.bytes.part()), Lent::new(CAPACITY, 0));
+    let count = (table.count as usize).clamp(1, CAPACITY);
+    let node = |random: &mut Random| if random.one_in(24) { random.word() as u16 } else { random.below(count) as u16 };
+    let (parent, label) = (node(random), if random.one_in(24) { [0, 9999, 10000][random.below(3)] } else { 1 + random.below(3) as u16 });
+    let (found, expected) = if table.count == 0 || random.one_in(10) {
+        (tree.add_root(4), table.add_root(&scratch))
+    } else {
+        (tree.add_leaf(parent, label, 4), table.add_leaf(&scratch, parent, label))
+    };
+    equal(found, expected.map(|g| [g.node, g.rows]), || format!("growth of a byte tree of {count} nodes"));
+    check(tree.bytes.part() == encode(&table), || format!("a byte tree after growth to {count} nodes"));
+    for _ in 0..2 {
+        let (x, y) = (node(random), node(random));
+        equal(tree.query(x, y, 16), table.query(x, y), || format!("question {x} {y} of a byte tree"));
+    }
+    check(tree.bytes.part() == encode(&table), || "a byte tree after a question".into());
+}
+
+/// Lists of calls to the 128th node and past it.
+pub fn lists() -> String {
+    let mut random = Random::new(6);
+    for _ in 0..LISTS {
+        let filling: Vec<u8> = (0..BYTES).map(|_| random.word() as u8).collect();
+        let mut tree = Tree::of(&filling);
+        equal(tree.set_up(), Ok(()), || "set-up of a byte tree".into());
+        let mut empty = Table::new(CAPACITY, false);
+        equal(empty.set_up(), Ok(()), || "set-up".into());
+        check(tree.bytes.part() == encode(&empty), || "an empty byte tree".into());
+        (0..CAPACITY + 12).for_each(|_| step(&mut tree, &mut random));
+    }
+    format!("{LISTS} lists")
+}
+
+/// Bytes overwritten anywhere, more often where rows are.
+pub fn damaged() -> String {
+    let mut random = Random::new(7);
+    let mut good = Tree::of(&vec![0; BYTES]);
+    equal(good.set_up(), Ok(()), || "set-up of a byte tree".into());
+    for round in 0..DAMAGED {
+        if round % 24 == 0 {
+            step(&mut good, &mut random);
+        }
+        let mut tree = Tree { bytes: good.bytes.clone() };
+        for _ in 0..1 + random.below(4) {
+            let place = match random.below(4) {
+                0 => random.below(BYTES),
+                1 => random.below(4),
+                2 => 4 + random.below(20 * (1 + round / 24).min(CAPACITY)),
+                _ => 2564 + random.below(16 * (1 + round / 24).min(CAPACITY)),
+            };
+            tree.bytes.part_mut()[place] = if random.one_in(2) { random.word() as u8 } else { random.below(4) as u8 };
+        }
+        step(&mut tree, &mut random);
+    }
+    format!("{DAMAGED} trees")
+}
+
+/// Trees and answers one byte short or long, and empty ones.
+pub fn misfits() -> String {
+    for len in [0, 1, BYTES - 1, BYTES + 1] {
+        let mut tree = Tree::of(&vec![0; len]);
+        let what = || format!("a byte tree of {len} bytes");
+        equal(tree.set_up(), Err(3), what);
+        equal(tree.add_leaf(0, 1, 4), Err(3), what);
+        equal(tree.add_root(4), Err(3), what);
+        equal(tree.query(0, 0, 16), Err(3), what);
+        check(tree.bytes.part().iter().all(|b| *b == 0), || format!("{} was stored to", what()));
+    }
+    let mut tree = Tree::of(&vec![0; BYTES]);
+    equal(tree.set_up(), Ok(()), || "set-up of a byte tree".into());
+    let before = tree.bytes.part().to_vec();
+    for len in [0, 3, 5, 15, 17] {
+        equal(tree.add_leaf(0, 1, len), Err(3), || format!("leaf with an answer of {len} bytes"));
+        equal(tree.add_root(len), Err(3), || format!("new root with an answer of {len} bytes"));
+        equal(tree.query(0, 0, len), Err(3), || format!("question with an answer of {len} bytes"));
+    }
+    check(tree.bytes.part() == before, || "a misfit was stored".into());
+    "5 trees".into()
+}

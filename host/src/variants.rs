@@ -1,0 +1,113 @@
+//! Tables that no list of calls makes: the tree of a good table with other paths, set sizes and spans, at the edges of the rules.
+
+use crate::engine::{Table, ENTRIES, FIELDS, NONE, NUMBERS};
+use crate::powers::POWERS;
+use crate::random::Random;
+
+const PARENT: usize = 0;
+const UPPER: usize = 4;
+const PATH: usize = 5;
+const SIZE: usize = 6;
+const SET_SIZE: usize = 7;
+
+fn get(t: &Table, v: usize, k: usize) -> u16 {
+    t.fields.part()[FIELDS * v + k]
+}
+
+fn put(t: &mut Table, v: usize, k: usize, value: u16) {
+    t.fields.part_mut()[FIELDS * v + k] = value;
+}
+
+fn fourth(t: &Table, v: usize) -> u64 {
+    u64::from(get(t, v, SET_SIZE)).pow(4)
+}
+
+fn start(t: &Table, v: usize) -> u64 {
+    t.numbers.part()[NUMBERS * v]
+}
+
+/// Paths kept, cut or led to any child; compressed parents and sizes true to them.
+fn lead_paths(t: &mut Table, n: usize, random: &mut Random) {
+    for v in 0..n {
+        let children: Vec<usize> = (1..n).filter(|c| get(t, *c, PARENT) as usize == v).collect();
+        if random.one_in(6) {
+            let path = if children.is_empty() || random.one_in(2) { NONE } else { children[random.below(children.len())] as u16 };
+            put(t, v, PATH, path);
+        }
+        put(t, v, SIZE, 0);
+    }
+    for v in 0..n {
+        let mut u = get(t, v, PARENT);
+        while u != NONE && get(t, u as usize, PARENT) != NONE && get(t, get(t, u as usize, PARENT) as usize, PATH) == u {
+            u = get(t, u as usize, PARENT);
+        }
+        put(t, v, UPPER, u);
+        let mut b = v as u16;
+        while b != NONE {
+            let size = get(t, b as usize, SIZE);
+            put(t, b as usize, SIZE, size + 1);
+            b = get(t, b as usize, UPPER);
+        }
+    }
+}
+
+/// Set sizes from the size down to below five sixths of it.
+fn choose_set_sizes(t: &mut Table, n: usize, random: &mut Random) {
+    for v in 0..n {
+        let size = get(t, v, SIZE);
+        let choices = [size, size, size, size - 1, size * 5 / 6, size * 5 / 6 + 1, size + 1];
+        let most = if random.one_in(3) { choices.len() } else { 3 };
+        put(t, v, SET_SIZE, choices[random.below(most)]);
+    }
+}
+
+/// Spans one after another from p in any order, with gaps now and then; next free numbers at or about their bounds.
+fn place_spans(t: &mut Table, n: usize, random: &mut Random) {
+    t.numbers.part_mut()[0] = 0;
+    for u in 0..n {
+        let mut children: Vec<usize> = (1..n).filter(|w| get(t, *w, UPPER) as usize == u).collect();
+        for i in (1..children.len()).rev() {
+            children.swap(i, random.below(i + 1));
+        }
+        let p = start(t, u) + fourth(t, u);
+        let (mut at, mut total) = (p, 0);
+        for w in &children {
+            at += if random.one_in(12) { random.below(40) as u64 } else { 0 };
+            t.numbers.part_mut()[NUMBERS * w] = at;
+            at += 5 * fourth(t, *w);
+            total += fourth(t, *w);
+        }
+        let dense = p + 6480 * total / 671;
+        let q = start(t, u) + 4 * fourth(t, u);
+        let bounds = [dense, dense + 1, q, q + 1, at.saturating_sub(1), at + 1];
+        t.numbers.part_mut()[NUMBERS * u + 1] = if random.one_in(8) { bounds[random.below(bounds.len())] } else { at };
+    }
+}
+
+/// Every ancestor entry true to the set sizes.
+fn fill_entries(t: &mut Table, n: usize) {
+    for v in 0..n {
+        for i in 0..ENTRIES {
+            let (mut entry, mut b) = (NONE, v as u16);
+            while b != NONE {
+                if 3 * u128::from(fourth(t, b as usize)) < POWERS.with(|p| p[i]) {
+                    entry = b;
+                }
+                b = get(t, b as usize, UPPER);
+            }
+            t.ancestors.part_mut()[ENTRIES * v + i] = entry;
+        }
+    }
+}
+
+/// A variant of a good table.
+pub fn of(table: &Table, random: &mut Random) -> Table {
+    let (mut t, n) = (table.clone(), table.count as usize);
+    if n != 0 {
+        lead_paths(&mut t, n, random);
+        choose_set_sizes(&mut t, n, random);
+        place_spans(&mut t, n, random);
+        fill_entries(&mut t, n);
+    }
+    t
+}

@@ -1,0 +1,90 @@
+/* Vundreli: nearest common ancestors in a tree that grows while it is asked.
+ *
+ * Each call answers 0, or the number of the refusal. A refusal changes no slice that was lent.
+ * A slice is a pointer and a count of elements. An out slice must have exactly the count that stands at its call; else the call is a misfit.
+ * A pointer names memory for all its elements, aligned for them, and no two slices of one call overlap where one of them is written.
+ * docs/FORMAT.md has the places of all numbers. */
+#ifndef VUNDRELI_H
+#define VUNDRELI_H
+
+#include <stddef.h>
+#include <stdint.h>
+
+#ifdef __cplusplus
+extern "C" {
+#endif
+
+/* No node: the root of an empty tree, and a link that leads nowhere. */
+#define NCA_NONE 65535
+
+enum nca_refusal {
+    NCA_UNKNOWN_NODE = 1, /* a named node is not below the count */
+    NCA_FULL = 2,         /* growth with as many nodes as there is room for */
+    NCA_MISFIT = 3,       /* the slices do not fit one capacity from 1 to 32,768, or an out slice is of another length */
+    NCA_CORRUPT = 4,      /* the table is none that these calls left */
+    NCA_BAD_LABEL = 5     /* a label outside 1 to 9,999 */
+};
+
+/* The table form. A table of capacity c is lent as four slices: fields (10 c), numbers (2 c), levels (c), ancestors (122 c).
+ * Count and root go in by value, and the caller keeps those that a growth writes to its out slice.
+ * scratch (c) is memory apart from the table; growth looks at its length only, inspection may leave anything in it. */
+
+/* An empty table. out (2): count, root. */
+uint16_t nca_table_set_up(uint16_t *fields, size_t fields_len, uint64_t *numbers, size_t numbers_len,
+                          int32_t *levels, size_t levels_len, uint16_t *ancestors, size_t ancestors_len,
+                          uint16_t *out, size_t out_len);
+
+/* A new leaf. out (4): count, root, the new node, rows renumbered. */
+uint16_t nca_table_add_leaf(uint16_t *fields, size_t fields_len, uint64_t *numbers, size_t numbers_len,
+                            int32_t *levels, size_t levels_len, uint16_t *ancestors, size_t ancestors_len,
+                            const uint16_t *scratch, size_t scratch_len,
+                            uint16_t count, uint16_t root, uint16_t parent, uint16_t label,
+                            uint16_t *out, size_t out_len);
+
+/* A new root over the present one, or the first node. out (4): count, root, the new node, rows renumbered. */
+uint16_t nca_table_add_root(uint16_t *fields, size_t fields_len, uint64_t *numbers, size_t numbers_len,
+                            int32_t *levels, size_t levels_len, uint16_t *ancestors, size_t ancestors_len,
+                            const uint16_t *scratch, size_t scratch_len,
+                            uint16_t count, uint16_t root,
+                            uint16_t *out, size_t out_len);
+
+/* out (6): the nearest common ancestor of x and y, the branches towards x and y, the distances of x and y from it, its label. */
+uint16_t nca_table_query(const uint16_t *fields, size_t fields_len, const uint64_t *numbers, size_t numbers_len,
+                         const int32_t *levels, size_t levels_len, const uint16_t *ancestors, size_t ancestors_len,
+                         uint16_t count, uint16_t root, uint16_t x, uint16_t y,
+                         int32_t *out, size_t out_len);
+
+/* out (1): 1 where the labels from the root's child down to x and down to y are the same, else 0. */
+uint16_t nca_table_alike(const uint16_t *fields, size_t fields_len, const uint64_t *numbers, size_t numbers_len,
+                         const int32_t *levels, size_t levels_len, const uint16_t *ancestors, size_t ancestors_len,
+                         uint16_t count, uint16_t root, uint16_t x, uint16_t y,
+                         uint16_t *out, size_t out_len);
+
+/* out (1): 1 where the table follows all rules, else 0. */
+uint16_t nca_table_inspect(const uint16_t *fields, size_t fields_len, const uint64_t *numbers, size_t numbers_len,
+                           const int32_t *levels, size_t levels_len, const uint16_t *ancestors, size_t ancestors_len,
+                           uint16_t *scratch, size_t scratch_len,
+                           uint16_t count, uint16_t root,
+                           uint16_t *out, size_t out_len);
+
+/* Byte trees. A tree of capacity 128 is one run of NCA_TREE_BYTES bytes, with its count and root in it; 16-bit numbers low byte first.
+ * The outcomes are those of the table form. A tree or an out slice of another length is a misfit. */
+#define NCA_TREE_BYTES 36356
+
+/* An empty tree. */
+uint16_t nca_set_up(uint8_t *tree, size_t tree_len);
+
+/* A new leaf. out (4 bytes): the new node (2), rows renumbered (2). */
+uint16_t nca_add_leaf(uint8_t *tree, size_t tree_len, uint16_t parent, uint16_t label, uint8_t *out, size_t out_len);
+
+/* A new root over the present one, or the first node. out (4 bytes): the new node (2), rows renumbered (2). */
+uint16_t nca_add_root(uint8_t *tree, size_t tree_len, uint8_t *out, size_t out_len);
+
+/* out (16 bytes): the nearest common ancestor (2), the branches towards x (2) and y (2), the distances of x (4) and y (4) from it, its label (2). */
+uint16_t nca_query(const uint8_t *tree, size_t tree_len, uint16_t x, uint16_t y, uint8_t *out, size_t out_len);
+
+#ifdef __cplusplus
+}
+#endif
+
+#endif
