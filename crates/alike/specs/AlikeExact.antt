@@ -12,6 +12,7 @@ use Rattle.tree_laws.specs.Ancestor.{none}
 use Rattle.tree_laws.specs.AncestorLaws.{cases}
 use Rattle.tree_laws.specs.Depth.{Depth}
 use Rattle.tree_laws.specs.RerootLaws.{plain-root-over}
+use Rattle.tree_laws.specs.SizeDepth.{depth-below}
 use Rattle.rows.specs.declared.refusal.Refusal.the-variants.{Corrupt}
 use Rattle.rows.specs.declared.state.State.{State}
 use Rattle.rows.specs.Row.{Parts}
@@ -22,10 +23,10 @@ use Rattle.rows.specs.Answer.{SameLabels}
 use Rattle.rows.specs.Rules.{Rules}
 use Rattle.numbering.specs.Numbered.{numbered, storedTree, stored-kindred}
 use Rattle.numbering.specs.LevelLaws.{plainDepthOf, level-root}
-use Rattle.numbering.specs.SoundRows.{depth-below}
 use Rattle.question.specs.CompressedExact.{row-passes}
 use Rattle.question.specs.PlainExact.{plain-tree}
-use Rattle.question.specs.QuestionExact.{recorded, fits-told, rules-standing}
+use Rattle.rows.specs.CapacityLaws.{fits-told}
+use Rattle.question.specs.QuestionExact.{recorded, rules-standing}
 use Rattle.query.specs.LevelLaws.{says-eqZ}
 use Rattle.alike.specs.LabelLaws.{same-depth, same-itself, same-below, same-above}
 use Rattle.alike.specs.PlainParentExact.{plain-up}

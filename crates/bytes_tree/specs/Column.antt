@@ -2,7 +2,7 @@
 use mathlib.Core.List.{List, [], _∷_, _++_}
 use Prim.Native.Nat.{ℕ, _+_, _*_}
 use lib.IntN.{ℤ}
-use Rattle.set_up.specs.Tabulate.{tabulate}
+use Rattle.laws.specs.Tabulate.{tabulate}
 use Rattle.bytes_tree.specs.Bytes.{bytes, valueAt}
 use Rattle.bytes_tree.specs.Sign.{signed}
 

@@ -10,7 +10,7 @@ use lib.Seq.{take-at, take-add, take-all, drop-drop, drop-append-add, getD-take,
 use Rattle.rows.specs.declared.state.State.{State}
 use Rattle.rows.specs.Row.{Parts, partsOf}
 use Rattle.rows.specs.Capacity.{Fits}
-use Rattle.set_up.specs.Tabulate.{tabulate, tabulateFrom, tabulated}
+use Rattle.laws.specs.Tabulate.{tabulate, tabulateFrom, tabulated}
 use Rattle.bytes_tree.specs.Bytes.{value, bytes, valueAt}
 use Rattle.bytes_tree.specs.BytesLaws.{length-bytes, value-bytes, bytes-value}
 use Rattle.bytes_tree.specs.Sign.{signed, unsigned, Levels32}

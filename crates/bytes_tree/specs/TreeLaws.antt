@@ -9,7 +9,7 @@ use lib.Seq.{sets}
 use Rattle.rows.specs.declared.state.State.{State}
 use Rattle.rows.specs.Row.{Parts, partsOf}
 use Rattle.rows.specs.Capacity.{Fits}
-use Rattle.set_up.specs.Tabulate.{length-tabulate}
+use Rattle.laws.specs.Tabulate.{length-tabulate}
 use Rattle.bytes_tree.specs.Bytes.{bytes, valueAt}
 use Rattle.bytes_tree.specs.BytesLaws.{sets-join, sets-all}
 use Rattle.bytes_tree.specs.Sign.{signed, unsigned}

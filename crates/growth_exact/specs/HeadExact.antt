@@ -15,6 +15,7 @@ use Rattle.tree_laws.specs.Highest.{Highest, absent, highest}
 use Rattle.tree_laws.specs.HighestLaws.{highest-below}
 use Rattle.tree_laws.specs.Join.{Joins}
 use Rattle.tree_laws.specs.JoinLaws.{anc-kept, anc-old, anc-new}
+use Rattle.tree_laws.specs.SizeDepth.{depth-below}
 use Rattle.span.specs.Constants.{limit, growthUp, growthDown}
 use Rattle.span.specs.Numbers.{outgrown}
 use Rattle.rows.specs.Layout.{sizePlace}
@@ -24,7 +25,7 @@ use Rattle.rows.specs.Table.{Table, tableOf, depth, upper, size, setSize}
 use Rattle.rows.specs.Rules.{Rules}
 use Rattle.rows.specs.Spans.{end}
 use Rattle.rows.specs.SoundLaws.{says-sound}
-use Rattle.numbering.specs.SoundRows.{depth-below, rules-sound}
+use Rattle.numbering.specs.SoundRows.{rules-sound}
 use Rattle.growth_laws.specs.Growth.{Growth, Named, parentOf}
 use Rattle.growth_laws.specs.Inserted.{Inserted}
 use Rattle.growth_laws.specs.Head.{Due, Head}

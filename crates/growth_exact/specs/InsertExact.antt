@@ -14,6 +14,7 @@ use Rattle.tree_laws.specs.Compressed.{Apex, PathChild, UpperStep}
 use Rattle.tree_laws.specs.CompressedLaws.{apex-or}
 use Rattle.tree_laws.specs.Join.{Joins}
 use Rattle.tree_laws.specs.JoinLaws.{anc-new, new-anc}
+use Rattle.tree_laws.specs.SizeDepth.{depth-below}
 use Rattle.rows.specs.Layout.{
   parentPlace,
   firstPlace,
@@ -32,7 +33,6 @@ use Rattle.rows.specs.Capacity.{Fits}
 use Rattle.rows.specs.Table.{Table, tableOf, parent, depth, upper, path, size}
 use Rattle.rows.specs.StoredTree.{Child, FirstFrom, LastOf, absent, least, greatest}
 use Rattle.rows.specs.Rules.{Rules}
-use Rattle.numbering.specs.SoundRows.{depth-below}
 use Rattle.growth_laws.specs.Growth.{Growth, Named, parentOf, labelOf, levelOf, rootOf}
 use Rattle.growth_laws.specs.Inserted.{LinksAfter, Planted, Inserted}
 use Rattle.growth_laws.specs.Chains.{size-most}

@@ -11,6 +11,7 @@ use lib.Dec.{eqb}
 use lib.IntN.{natAbs}
 use Rattle.laws.specs.Test.{pick}
 use Rattle.tree_laws.specs.Ancestor.{none}
+use Rattle.tree_laws.specs.SizeDepth.{depth-below}
 use Rattle.span.specs.Constants.{limit}
 use Rattle.span.specs.Numbers.{endOf, withinLimit}
 use Rattle.rows.specs.Layout.{parentPlace, lastPlace, pathPlace, depthPlace, nextFreePlace}
@@ -19,7 +20,6 @@ use Rattle.rows.specs.Capacity.{Fits}
 use Rattle.rows.specs.Table.{Table, tableOf, parent, depth, upper}
 use Rattle.rows.specs.Sound.{levelLimit}
 use Rattle.rows.specs.Rules.{Rules}
-use Rattle.numbering.specs.SoundRows.{depth-below}
 use Rattle.growth_laws.specs.Growth.{Growth, Named, parentOf, labelOf, levelOf, rootOf}
 use Rattle.growth_laws.specs.Head.{Head}
 use Rattle.growth_laws.specs.PlantedLaws.{parent-in}

@@ -1,13 +1,9 @@
 -- Every number of a numbered table is small (01, "Every number stays at or below 5 × 2^60").
-use mathlib.Core.Bool.{Bool, true, false}
-use Prim.Native.Nat.{ℕ, zero, suc, _≤_, _<_, zero-le}
+use Prim.Native.Nat.{ℕ, _≤_, _<_}
 use native.Mathlib.Omega.{arith}
-use Rattle.laws.specs.Test.{bit}
-use Rattle.laws.specs.Sum.{countTo}
 use Rattle.laws.specs.Fourth.{fourth, fourth-le}
-use Rattle.tree_laws.specs.Ancestor.{isAncestor}
 use Rattle.tree_laws.specs.AncestorLaws.{anc-in, root-of}
-use Rattle.tree_laws.specs.Size.{size as sizeIn}
+use Rattle.tree_laws.specs.SizeDepth.{size-le}
 use Rattle.span.specs.Constants.{limit}
 use Rattle.span.specs.NumberLaws.{limit-span}
 use Rattle.rows.specs.Capacity.{capacityLimit}
@@ -25,19 +21,6 @@ pub record Bounded (t : Table) (x : ℕ) : Type 0 where
   pub q : q t x ≤ limit
   pub end : end t x ≤ limit
   pub nextFree : nextFree t x ≤ limit
-
-count-le : (b : ℕ → Bool) (n : ℕ) → countTo b n ≤ n
-count-le b zero = zero-le
-count-le b (suc n) = omega (arith, count-le b n, bit-le (b n))
-  where
-    bit-le : (c : Bool) → bit c ≤ 1
-    bit-le true = omega arith
-    bit-le false = omega arith
-
--- at most n rows lie at or below a row
-pub size-le : (up rank : ℕ → ℕ) (n v : ℕ) → sizeIn up rank n v ≤ n
-unfolding sizeIn
-size-le up rank n v = count-le (isAncestor up rank v) n
 
 module _ {t : Table} (r : Numbered t) where
   sizes-small : (x : ℕ) → x < t .count → (size t x ≤ t .count) × (setSize t x ≤ t .count)

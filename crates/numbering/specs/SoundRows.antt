@@ -7,32 +7,14 @@ use native.Mathlib.Omega.{arith}
 use lib.IntN.{ℤ, pos, negsuc, sucℤ, predℤ, natAbs, +ℤ-one, -ℤ-one}
 use Rattle.tree_laws.specs.Ancestor.{none, Forest}
 use Rattle.tree_laws.specs.AncestorLaws.{climb, decAnc}
-use Rattle.tree_laws.specs.Depth.{Depth}
-use Rattle.tree_laws.specs.DepthLaws.{depth-forest}
-use Rattle.tree_laws.specs.Size.{size}
-use Rattle.tree_laws.specs.SizeLaws.{size-pos, size-children, childSum-one}
+use Rattle.tree_laws.specs.SizeDepth.{depth-below}
 use Rattle.rows.specs.Capacity.{capacityLimit}
 use Rattle.rows.specs.Table.{Table, parent, depth, upper, path, level}
 use Rattle.rows.specs.StoredTree.{FirstFrom, LastOf, absent, least, greatest}
 use Rattle.rows.specs.Rules.{Rules}
 use Rattle.rows.specs.Sound.{Link, Sound}
 use Rattle.numbering.specs.Numbered.{Numbered, numbered, storedTree, compressedTree}
-use Rattle.numbering.specs.Bounds.{size-le, numbers-small}
-
--- Depths lie below the count: the rows above x and those at or below it are different rows
-
-pub size-depth : {up depth : ℕ → ℕ} {n : ℕ} → Depth up depth n → (x : ℕ) → x < n → size up depth n x + depth x ≤ n
-size-depth {up} {depth} {n} t = climb (depth-forest t) (λ x. size up depth n x + depth x ≤ n)
-    (λ x l e. omega (arith, size-le up depth n x, t .root x l e))
-    (λ x l h i. omega (
-      arith,
-      t .step x l h,
-      size-children (depth-forest t) (up x) (t .inside x l h),
-      childSum-one up n (up x) (size up depth n) x l refl,
-    ))
-
-pub depth-below : {up depth : ℕ → ℕ} {n : ℕ} → Depth up depth n → (x : ℕ) → x < n → depth x < n
-depth-below t x l = omega (arith, size-depth t x l, size-pos (depth-forest t) x l)
+use Rattle.numbering.specs.Bounds.{numbers-small}
 
 -- a level one up or down is at most one greater in size
 abs-suc : (l : ℤ) → natAbs (sucℤ l) ≤ natAbs l + 1

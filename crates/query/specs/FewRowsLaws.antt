@@ -15,13 +15,12 @@ use Rattle.span.specs.Numbers.{pOf}
 use Rattle.span.specs.Rank.{rankOf}
 use Rattle.span.specs.RankLaws.{rank-small}
 use Rattle.rows.specs.declared.capacity.Fit.{Fit}
-use Rattle.rows.specs.declared.capacity.Fit.the-variants.{Capacity}
 use Rattle.rows.specs.declared.refusal.Refusal.the-variants.{Corrupt}
 use Rattle.rows.specs.declared.state.State.{State}
 use Rattle.rows.specs.Layout.{entryStride}
 use Rattle.rows.specs.Row.{Parts, rowAt, levelAt, entryAt}
-use Rattle.rows.specs.Capacity.{Fits, capacityOf}
-use Rattle.rows.specs.CapacityLaws.{capacity-fits}
+use Rattle.rows.specs.Capacity.{Fits}
+use Rattle.rows.specs.CapacityLaws.{fits-told}
 use Rattle.rows.specs.Table.{Table, tableOf}
 use Rattle.rows.specs.Spans.{p}
 use Rattle.query.specs.declared.compressed.Side.{Side}
@@ -307,17 +306,14 @@ same-past : {c v : ℕ} (a b : Parts) → Fits c a → Fits c b → c ≤ v → 
 same-past a b f g h =
     record { row = row-past a f h ∙ sym (row-past b g h); entry = λ i _. entry-past a f h i ∙ sym (entry-past b g h i) }
 
-capacity-is : {c : ℕ} (a : Parts) → Fits c a → capacityOf a ≡ Capacity c
-capacity-is a f = sym (capacity-fits a (rw (f .levels) f)) ∙ ap Capacity (f .levels)
-
 -- parts that agree in the rows of a question give it the same outcome
 decided : {c : ℕ} (a b : Parts) → Fits c a → Fits c b → (s : State) (x y : ℕ)
     → Every (Agree (tableOf a (s .count) (s .root)) (tableOf b (s .count) (s .root))) (rowsRead (tableOf a (s .count) (s .root)) x y)
     → question b s x y ≡ question a s x y
 unfolding question asked
 decided {c} a b f g s x y h = rw (
-  capacity-is a f,
-  capacity-is b g,
+  fits-told f,
+  fits-told g,
   served-same {t = tableOf a (s .count) (s .root)} {u = tableOf b (s .count) (s .root)} refl (agree none (same-past a b f g (omega (arith, f .most)))) refl x y h,
 )
   where

@@ -1,6 +1,6 @@
 -- Demand 2: on a table that passes inspection a question on two nodes below the count is served, and its outcome is exactly the nearest common
 -- ancestor, both branches, both distances and the label, by the naive definition on the plain tree that the table records.
-use mathlib.Core.Path.{_≡_, refl, ap, sym, _∙_}
+use mathlib.Core.Path.{_≡_, refl, ap, _∙_}
 use mathlib.Core.Bool.{true}
 use mathlib.Core.Logic.{_≢_}
 use Prim.Native.Nat.{ℕ, _≤_, _<_}
@@ -13,12 +13,11 @@ use Rattle.tree_laws.specs.Depth.{arrived}
 use Rattle.tree_laws.specs.DepthLaws.{steps-one, depth-forest}
 use Rattle.tree_laws.specs.Nca.{itself}
 use Rattle.tree_laws.specs.NcaLaws.{characteristic-unique}
-use Rattle.rows.specs.declared.capacity.Fit.the-variants.{Capacity}
 use Rattle.rows.specs.declared.refusal.Refusal.the-variants.{Corrupt}
 use Rattle.rows.specs.declared.state.State.{State}
 use Rattle.rows.specs.Row.{Parts}
-use Rattle.rows.specs.Capacity.{capacityLimit, Fits, capacityOf}
-use Rattle.rows.specs.CapacityLaws.{capacity-fits}
+use Rattle.rows.specs.Capacity.{capacityLimit, Fits}
+use Rattle.rows.specs.CapacityLaws.{fits-told}
 use Rattle.rows.specs.Table.{Table, tableOf, label}
 use Rattle.rows.specs.PlainTree.{plain}
 use Rattle.rows.specs.Answer.{Answer, Answers}
@@ -85,10 +84,6 @@ module _ {capacity : ℕ} {t : Table} (r : Rules capacity t) (fits : capacity �
       let j : a .distanceY ≡ b .distanceY = steps-one tree m (rw (e .nca) at (f .distanceY)) (g .distanceY) in
       let k : a .label ≡ b .label = cc in
       rw (e .nca, e .toX, e .toY, i, j, k)
-
--- parts that fit a capacity tell it
-pub fits-told : {c : ℕ} {parts : Parts} → Fits c parts → capacityOf parts ≡ Capacity c
-fits-told {c} {parts} f = sym (capacity-fits parts (rw (f .levels) f)) ∙ ap Capacity (f .levels)
 
 -- count and root of a table that passes inspection stand
 pub rules-standing : {c : ℕ} (parts : Parts) (state : State) → Rules c (recorded parts state) → isStanding c state ≡ true

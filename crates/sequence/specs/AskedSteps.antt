@@ -14,7 +14,8 @@ use Rattle.rows.specs.Answer.{Answer}
 use Rattle.query.specs.Outcome.{Outcome as QuestionOutcome, refused as noAnswer}
 use Rattle.query.specs.Question.{question as ask}
 use Rattle.query.specs.QuestionLaws.{question-unknown-x, question-unknown-y}
-use Rattle.question.specs.QuestionExact.{given, fits-told, question-exact}
+use Rattle.rows.specs.CapacityLaws.{fits-told}
+use Rattle.question.specs.QuestionExact.{given, question-exact}
 use Rattle.alike.specs.Outcome.{Outcome as AlikeOutcome, refused as noValue}
 use Rattle.alike.specs.Alike.{alike as compare}
 use Rattle.alike.specs.AlikeLaws.{alike-unknown-x, alike-unknown-y}

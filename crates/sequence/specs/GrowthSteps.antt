@@ -17,7 +17,7 @@ use Rattle.rows.specs.Capacity.{capacityOf}
 use Rattle.rows.specs.Table.{Table, label}
 use Rattle.rows.specs.PlainTree.{plain}
 use Rattle.rows.specs.StoredTree.{labelLimit}
-use Rattle.question.specs.QuestionExact.{fits-told}
+use Rattle.rows.specs.CapacityLaws.{fits-told}
 use Rattle.growth.specs.declared.Grown.{Grown}
 use Rattle.growth.specs.declared.plan.Planned.{Planned}
 use Rattle.growth.specs.declared.plan.Planned.the-variants.{Refuse}

@@ -6,10 +6,10 @@ use Rattle.rows.specs.Capacity.{Fits}
 use Rattle.rows.specs.Table.{label}
 use Rattle.rows.specs.PlainTree.{plain}
 use Rattle.rows.specs.Rules.{Rules}
-use Rattle.question.specs.QuestionExact.{fits-told}
+use Rattle.rows.specs.CapacityLaws.{fits-told}
 use Rattle.growth_laws.specs.Lag.{Paid}
 use Rattle.growth_laws.specs.EmptyTable.{total-empty}
-use Rattle.set_up.specs.Tabulate.{length-tabulate}
+use Rattle.laws.specs.Tabulate.{length-tabulate}
 use Rattle.set_up.specs.Blank.{blank, partsAfter}
 use Rattle.set_up.specs.BlankLaws.{empty-rules}
 use Rattle.plain_list.specs.PlainList.{PlainList, emptyList, countOf}

@@ -4,7 +4,7 @@ use lib.Dec.{ltb}
 use lib.IntN.{pos}
 use lib.ListN.{length}
 use Rattle.laws.specs.Test.{pick}
-use Rattle.set_up.specs.Tabulate.{tabulate}
+use Rattle.laws.specs.Tabulate.{tabulate}
 use Rattle.tree_laws.specs.Ancestor.{none}
 use Rattle.rows.specs.declared.capacity.Fit.{Fit}
 use Rattle.rows.specs.declared.capacity.Fit.the-variants.{Capacity, Misfit}

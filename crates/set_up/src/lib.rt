@@ -8,7 +8,7 @@ use rows::state::State;
 ghost use mathlib.Core.Path.{_≡_};
 ghost use lib.ListN.{length};
 ghost use lib.IntN.{pos};
-ghost use Rattle.set_up.specs.Tabulate.{tabulate};
+ghost use Rattle.laws.specs.Tabulate.{tabulate};
 ghost use Rattle.rows.specs.Row.{partsOf};
 ghost use Rattle.set_up.specs.Blank.{blankField, setUp, partsAfter};
 

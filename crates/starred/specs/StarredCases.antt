@@ -10,7 +10,7 @@ use Rattle.span.specs.Rank.{rankTo, rankOf}
 use Rattle.rows.specs.Capacity.{fits, capacityOf}
 use Rattle.rows.specs.Sound.{isSound}
 use Rattle.rows.specs.State.{isStanding}
-use Rattle.set_up.specs.Tabulate.{tabulate}
+use Rattle.laws.specs.Tabulate.{tabulate}
 use Rattle.set_up.specs.Blank.{blank, partsAfter}
 use Rattle.renumber.specs.Count.{oneMore}
 use Rattle.renumber.specs.Place.{turn, arrival}

@@ -6,6 +6,7 @@ pub mod Nca
 pub mod NcaLaws
 pub mod Size
 pub mod SizeLaws
+pub mod SizeDepth
 pub mod Join
 pub mod JoinLaws
 pub mod Highest

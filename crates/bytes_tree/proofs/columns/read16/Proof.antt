@@ -2,7 +2,7 @@
 use Prim.Native.Nat.{_+_, _*_, _-_}
 use native.Mathlib.Omega.{arith}
 use lib.ListN.{length}
-use Rattle.set_up.specs.Tabulate.{Begun, begun-none, begun-more, begun-all}
+use Rattle.laws.specs.Tabulate.{Begun, begun-none, begun-more, begun-all}
 use Rattle.bytes_tree.specs.Bytes.{valueAt}
 use Rattle.bytes_tree.specs.Column.{numbersAt}
 use Rattle.bytes_tree.proofs.columns.read16.Statement.{statement}

@@ -7,7 +7,7 @@ use mir.Syntax.{w32}
 use mir.Val.{toZ, ofZ}
 use mir.ValLaws.{toZ-ofZ}
 use lib.ListN.{length}
-use Rattle.set_up.specs.Tabulate.{Begun, begun-none, begun-more, begun-all}
+use Rattle.laws.specs.Tabulate.{Begun, begun-none, begun-more, begun-all}
 use Rattle.bytes_tree.specs.Bytes.{valueAt}
 use Rattle.bytes_tree.specs.Sign.{signed}
 use Rattle.bytes_tree.specs.Column.{levelsAt}
