@@ -1,4 +1,4 @@
-// Baseline (a): the engine's structure, written straightforwardly and without checks: fat preorder numbers, heavy paths, 122 ancestor entries to a row.
+// Baseline (a): the engine's structure without checks: fat preorder numbers, heavy paths, 122 ancestor entries to a row.
 #pragma once
 #include "answer.hpp"
 #include "rerooted.hpp"
@@ -7,7 +7,9 @@
 #include <numeric>
 #include <vector>
 
-class FatPreorder {
+// Straightforward: each of the 122 entries by its rule. Tuned: the upper row's entries and the row itself from one index on, in loops that compile to
+// vector code, as the engine has them.
+template <bool TUNED> class FatPreorder {
 public:
     static constexpr const char *name = "C++";
     static constexpr double bytes_per_row = 284;
@@ -176,7 +178,7 @@ private:
         row.start = u == NONE ? 0 : rows[u].next_free;
         row.next_free = p(x);
         if (u != NONE) rows[u].next_free = end(x);
-        fill(x, u, own_from(s));
+        fill(x, u);
         given++;
     }
 
@@ -185,14 +187,22 @@ private:
         return std::min(ENTRIES, int(std::upper_bound(powers.begin(), powers.end(), 3 * fourth(set_size)) - powers.begin()));
     }
 
-    // The entries of the upper row, and x itself from an index on, where there is none.
-    void fill(uint16_t x, uint16_t u, int from) {
+    // The entries of the upper row, and x itself where there is none and its reach lies below the power.
+    void fill(uint16_t x, uint16_t u) {
         auto &to = entries[x];
-        if (u == NONE)
-            to.fill(NONE);
-        else
-            to = entries[u];
-        for (int i = from; i < ENTRIES; i++) to[i] = to[i] == NONE ? x : to[i];
+        if constexpr (TUNED) {
+            if (u == NONE)
+                to.fill(NONE);
+            else
+                to = entries[u];
+            for (int i = own_from(rows[x].set_size); i < ENTRIES; i++) to[i] = to[i] == NONE ? x : to[i];
+        } else {
+            uint64_t reach = 3 * fourth(rows[x].set_size);
+            for (int i = 0; i < ENTRIES; i++) {
+                uint16_t e = u == NONE ? NONE : entries[u][i];
+                to[i] = e == NONE && reach < powers[i] ? x : e;
+            }
+        }
     }
 
     bool tree_holds(uint32_t n) {
@@ -259,16 +269,24 @@ private:
     bool entries_hold(uint32_t n) const {
         std::array<uint16_t, ENTRIES> none;
         none.fill(NONE);
-        for (uint32_t v = 0; v < n; v++) {
-            const auto &row = entries[v];
-            const auto &above = rows[v].upper == NONE ? none : entries[rows[v].upper];
-            int from = own_from(rows[v].set_size);
-            uint16_t x = uint16_t(v), odd = 0;
+        for (uint32_t v = 0; v < n; v++)
+            if (!row_holds(uint16_t(v), entries[v], rows[v].upper == NONE ? none : entries[rows[v].upper])) return false;
+        return true;
+    }
+
+    bool row_holds(uint16_t x, const std::array<uint16_t, ENTRIES> &row, const std::array<uint16_t, ENTRIES> &above) const {
+        if constexpr (TUNED) {
+            int from = own_from(rows[x].set_size);
+            uint16_t odd = 0;
             for (int i = 0; i < from; i++) odd |= row[i] ^ above[i];
             for (int i = from; i < ENTRIES; i++) odd |= row[i] ^ (above[i] == NONE ? x : above[i]);
-            if (odd != 0) return false;
+            return odd == 0;
+        } else {
+            uint64_t reach = 3 * fourth(rows[x].set_size);
+            for (int i = 0; i < ENTRIES; i++)
+                if (row[i] != (above[i] == NONE && reach < powers[i] ? x : above[i])) return false;
+            return true;
         }
-        return true;
     }
 
     std::vector<Row> rows;

@@ -5,22 +5,22 @@
 #include "growths.hpp"
 #include "jump_pointers.hpp"
 #include "parent_walk.hpp"
-#include <chrono>
-#include <cstring>
 #include <functional>
 #include <limits>
+#include <time.h>
 
-static double seconds() { return std::chrono::duration<double>(std::chrono::steady_clock::now().time_since_epoch()).count(); }
+// Processor time: other work on the machine does not count.
+static double seconds() {
+    timespec now{};
+    clock_gettime(CLOCK_THREAD_CPUTIME_ID, &now);
+    return double(now.tv_sec) + double(now.tv_nsec) * 1e-9;
+}
 
-// The best of several runs, in nanoseconds: what disturbs a run only makes it longer.
-static double best(int runs, const std::function<void()> &work) {
-    double least = std::numeric_limits<double>::infinity();
-    for (int i = 0; i < runs; i++) {
-        double from = seconds();
-        work();
-        least = std::min(least, seconds() - from);
-    }
-    return least * 1e9;
+// Nanoseconds of one run. Of several the least counts: what disturbs a run only makes it longer.
+static double timed(const std::function<void()> &work) {
+    double from = seconds();
+    work();
+    return (seconds() - from) * 1e9;
 }
 
 static uint16_t label_of(size_t i) { return uint16_t(i % 9999 + 1); }
@@ -49,35 +49,61 @@ static void same(bool equal, const char *what) {
     std::exit(1);
 }
 
-// Nanoseconds to a question, and a sum over all answers.
-template <class Ask> double asked(const std::vector<Pair> &list, uint64_t &sum, Ask ask) {
-    double ns = best(5, [&] {
-        sum = 0;
-        for (auto &p : list) sum = mixed(sum, ask(p.x, p.y));
-    });
-    return ns / double(list.size());
+// One pass over the pairs: the least time to a question so far, and a sum over all answers.
+template <class Ask> void asked(double &least, uint64_t &sum, const std::vector<Pair> &list, Ask ask) {
+    least = std::min(least, timed([&] {
+                                sum = 0;
+                                for (auto &p : list) sum = mixed(sum, ask(p.x, p.y));
+                            }) / double(list.size()));
 }
+
+using Plain = FatPreorder<false>;
+using Tuned = FatPreorder<true>;
 
 struct Questions {
     double engine, three, two, walk, jump;
 };
 
-static Questions ask_all(const Engine &engine, const FatPreorder &fat, const ParentWalk &walk, const JumpPointers &jump, uint32_t n, Random &random) {
-    uint64_t sums[5];
-    auto many = pairs(n, 100000, random);
-    Questions q{};
-    q.engine = asked(many, sums[0], [&](uint16_t x, uint16_t y) { return engine.query(x, y); });
-    q.three = asked(many, sums[1], [&](uint16_t x, uint16_t y) { return fat.query(x, y); });
-    q.two = asked(many, sums[2], [&](uint16_t x, uint16_t y) { return fat.short_query(x, y); });
-    q.jump = asked(many, sums[3], [&](uint16_t x, uint16_t y) { return jump.query(x, y); });
-    same(sums[0] == sums[1] && sums[1] == sums[2] && sums[2] == sums[3], "answers");
+// All structures by turns, so that each meets the same state of the machine.
+static Questions ask_all(const Engine &engine, const Plain &fat, const ParentWalk &walk, const JumpPointers &jump, uint32_t n, Random &random) {
+    const double none = std::numeric_limits<double>::infinity();
+    Questions q{none, none, none, none, none};
+    uint64_t sums[6];
+    auto many = pairs(n, 20000, random);
     // the walk is slow on deep trees: fewer pairs
-    auto few = pairs(n, 2000, random);
-    uint64_t expected = 0;
-    for (auto &p : few) expected = mixed(expected, engine.query(p.x, p.y));
-    q.walk = asked(few, sums[4], [&](uint16_t x, uint16_t y) { return walk.query(x, y); });
-    same(sums[4] == expected, "answers of the parent walk");
+    std::vector<Pair> few(many.begin(), many.begin() + 1000);
+    double unused = none;
+    for (int i = 0; i < 25; i++) {
+        asked(q.engine, sums[0], many, [&](uint16_t x, uint16_t y) { return engine.query(x, y); });
+        asked(q.three, sums[1], many, [&](uint16_t x, uint16_t y) { return fat.query(x, y); });
+        asked(q.two, sums[2], many, [&](uint16_t x, uint16_t y) { return fat.short_query(x, y); });
+        asked(q.jump, sums[3], many, [&](uint16_t x, uint16_t y) { return jump.query(x, y); });
+        if (i < 3) asked(q.walk, sums[4], few, [&](uint16_t x, uint16_t y) { return walk.query(x, y); });
+    }
+    asked(unused, sums[5], few, [&](uint16_t x, uint16_t y) { return engine.query(x, y); });
+    same(sums[0] == sums[1] && sums[1] == sums[2] && sums[2] == sums[3] && sums[4] == sums[5], "answers");
     return q;
+}
+
+// Nanoseconds to a growth, for each structure the best of several runs by turns.
+struct Growing {
+    double engine, plain, tuned;
+};
+
+template <class Tree> void time_growth(double &least, uint32_t n, const std::vector<Growth> &list) {
+    Tree tree(n);
+    least = std::min(least, timed([&] { grow(tree, list); }) / n);
+}
+
+static Growing grow_all(uint32_t n, const std::vector<Growth> &list) {
+    double none = std::numeric_limits<double>::infinity();
+    Growing g{none, none, none};
+    for (int i = 0; i < (n <= 1000 ? 25 : 5); i++) {
+        time_growth<Engine>(g.engine, n, list);
+        time_growth<Plain>(g.plain, n, list);
+        time_growth<Tuned>(g.tuned, n, list);
+    }
+    return g;
 }
 
 struct Shape {
@@ -89,39 +115,37 @@ struct Shape {
 static void measure(const Shape &shape, uint32_t n, uint32_t roots) {
     Random random(n * 7 + roots + shape.name[0]);
     auto list = growths(shape.parents(n, random), roots, random);
-    int runs = n <= 1000 ? 9 : 3;
-    double grow_engine = std::numeric_limits<double>::infinity(), grow_fat = grow_engine;
-    // engine and baseline by turns, so that both meet the same state of the machine
-    for (int i = 0; i < runs; i++) {
-        Engine e(n);
-        grow_engine = std::min(grow_engine, best(1, [&] { grow(e, list); }) / n);
-        FatPreorder f(n);
-        grow_fat = std::min(grow_fat, best(1, [&] { grow(f, list); }) / n);
-    }
+    Growing g = grow_all(n, list);
     Engine engine(n);
-    FatPreorder fat(n);
+    Plain plain(n);
+    Tuned tuned(n);
     ParentWalk walk(n);
     JumpPointers jump(n);
+    grow(tuned, list);
     grow(walk, list);
     grow(jump, list);
     uint64_t total = 0, most = 0;
     for (size_t i = 0; i < list.size(); i++) {
         uint16_t a = list[i].root ? engine.add_root() : engine.add_leaf(list[i].parent, label_of(i));
-        uint16_t b = list[i].root ? fat.add_root() : fat.add_leaf(list[i].parent, label_of(i));
+        uint16_t b = list[i].root ? plain.add_root() : plain.add_leaf(list[i].parent, label_of(i));
         same(a == b, "rows renumbered");
         total += a;
         most = std::max(most, total * 1000 / (i + 1));
     }
-    Questions q = ask_all(engine, fat, walk, jump, n, random);
-    bool yes = true, also = true;
+    Questions q = ask_all(engine, plain, walk, jump, n, random);
+    bool yes = true;
     volatile uint64_t sink = 0;
-    double inspect_engine = best(5, [&] { yes = yes && engine.inspect(); });
-    double inspect_fat = best(5, [&] { also = also && fat.inspect(); });
-    double pass = best(9, [&] { sink = sink + engine.pass(); });
-    same(yes && also, "inspection");
-    std::printf("| %s | %u | %u %% | %.0f | %.2f | %.2f | %.2f | %.2f | %.0f | %.2f | %.2f | %.2f | %.0f | %.1f | %.1f |\n", shape.name, n, roots, q.engine,
-                q.engine / q.three, q.engine / q.two, q.engine / q.walk, q.engine / q.jump, grow_engine, grow_engine / grow_fat, inspect_engine / 1e6,
-                inspect_engine / inspect_fat, inspect_engine / pass, double(total) / n, double(most) / 1000);
+    double none = std::numeric_limits<double>::infinity(), inspect = none, inspect_plain = none, inspect_tuned = none, pass = none;
+    for (int i = 0; i < 15; i++) {
+        inspect = std::min(inspect, timed([&] { yes = yes && engine.inspect(); }));
+        inspect_plain = std::min(inspect_plain, timed([&] { yes = yes && plain.inspect(); }));
+        inspect_tuned = std::min(inspect_tuned, timed([&] { yes = yes && tuned.inspect(); }));
+        pass = std::min(pass, timed([&] { sink = sink + engine.pass(); }));
+    }
+    same(yes, "inspection");
+    std::printf("| %s | %u | %u %% | %.0f | %.2f | %.2f | %.3f | %.2f | %.0f | %.2f | %.2f | %.2f | %.2f | %.2f | %.0f | %.1f | %.1f |\n", shape.name, n, roots, q.engine,
+                q.engine / q.three, q.engine / q.two, q.engine / q.walk, q.engine / q.jump, g.engine, g.engine / g.plain, g.engine / g.tuned, inspect / 1e6,
+                inspect / inspect_plain, inspect / inspect_tuned, inspect / pass, double(total) / n, double(most) / 1000);
     std::fflush(stdout);
 }
 
@@ -134,7 +158,7 @@ static void depths(const char *file) {
         Random random(spine);
         auto list = growths(comb(n, spine, random), 0, random);
         Engine engine(n);
-        FatPreorder fat(n);
+        Plain fat(n);
         ParentWalk walk(n);
         JumpPointers jump(n);
         grow(engine, list);
@@ -157,12 +181,12 @@ int main(int argc, char **argv) {
         {"star", [](uint32_t n, Random &) { return star(n); }, all},
         {"binary", [](uint32_t n, Random &) { return binary(n); }, all},
     };
-    std::printf("| tree | nodes | new roots | question, ns | to C++, three answers | to C++, two answers | to walk | to jump | growth, ns | to C++ | inspection, ms | "
-                "to C++ | to one pass | rows a node | worst |\n|---|---|---|---|---|---|---|---|---|---|---|---|---|---|---|\n");
+    std::printf("| tree | nodes | new roots | question, ns | to C++, three answers | to C++, two answers | to walk | to jump | growth, ns | to C++ | to C++, tuned | "
+                "inspection, ms | to C++ | to C++, tuned | to one pass | rows a node | worst |\n|---|---|---|---|---|---|---|---|---|---|---|---|---|---|---|---|---|\n");
     for (auto &shape : shapes)
         for (uint32_t n : shape.sizes)
             for (uint32_t roots : {0u, 5u}) measure(shape, n, roots);
-    std::printf("\nBytes a row: engine %.0f (and 2 of scratch), C++ %.0f, parent walk %.0f, jump pointers %.0f.\n", Engine::bytes_per_row, FatPreorder::bytes_per_row,
+    std::printf("\nBytes a row: engine %.0f (and 2 of scratch), C++ %.0f, parent walk %.0f, jump pointers %.0f.\n", Engine::bytes_per_row, Plain::bytes_per_row,
                 ParentWalk::bytes_per_row, JumpPointers::bytes_per_row);
     if (argc > 1) depths(argv[1]);
     return 0;
