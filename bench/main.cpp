@@ -152,7 +152,7 @@ static void measure(const Shape &shape, uint32_t n, uint32_t roots) {
 static void depths(const char *file) {
     std::FILE *out = std::fopen(file, "w");
     if (out == nullptr) std::exit(1);
-    std::fprintf(out, "depth,engine,C++ (three stored answers),parent walk,jump pointers\n");
+    std::fprintf(out, "depth,engine,C++,parent walk,jump pointers\n");
     const uint32_t n = 32768;
     for (uint32_t spine = 8; spine <= n; spine *= 4) {
         Random random(spine);

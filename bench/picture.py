@@ -4,7 +4,7 @@ import csv
 import math
 import sys
 
-WIDTH, HEIGHT, LEFT, TOP, RIGHT, BOTTOM = 640, 400, 70, 30, 20, 60
+WIDTH, HEIGHT, LEFT, TOP, RIGHT, BOTTOM = 660, 400, 90, 30, 35, 60
 COLOURS = ["#0b6e4f", "#555555", "#c0392b", "#2a6fb0"]
 
 
