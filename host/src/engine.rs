@@ -131,6 +131,24 @@ pub struct Grown {
 /// What a call says, or 01's refusal number.
 pub type Reply<T> = Result<T, u16>;
 
+/// A call that may store, with the table's parts as C takes them: each a pointer and a count. What follows them is written out.
+macro_rules! lend_mut {
+    ($call:ident, $table:ident, $($rest:expr),*) => {{
+        let (f, n, l, a) = ($table.fields.part_mut(), $table.numbers.part_mut(), $table.levels.part_mut(), $table.ancestors.part_mut());
+        unsafe {
+            raw::$call(f.as_mut_ptr(), f.len(), n.as_mut_ptr(), n.len(), l.as_mut_ptr(), l.len(), a.as_mut_ptr(), a.len(), $($rest),*)
+        }
+    }};
+}
+
+/// The same of a call that only reads.
+macro_rules! lend {
+    ($call:ident, $table:ident, $($rest:expr),*) => {{
+        let (f, n, l, a) = ($table.fields.part(), $table.numbers.part(), $table.levels.part(), $table.ancestors.part());
+        unsafe { raw::$call(f.as_ptr(), f.len(), n.as_ptr(), n.len(), l.as_ptr(), l.len(), a.as_ptr(), a.len(), $($rest),*) }
+    }};
+}
+
 impl Table {
     /// Parts that fit a capacity, all zero.
     pub fn new(capacity: usize, watched: bool) -> Table {
@@ -192,22 +210,8 @@ impl Table {
 
     pub fn set_up(&mut self) -> Reply<()> {
         let (before, mut out) = (self.copy(), Lent::<u16>::marked(2));
-        let code = unsafe {
-            let (f, n, l, a, o) =
-                (self.fields.part_mut(), self.numbers.part_mut(), self.levels.part_mut(), self.ancestors.part_mut(), out.part_mut());
-            raw::nca_table_set_up(
-                f.as_mut_ptr(),
-                f.len(),
-                n.as_mut_ptr(),
-                n.len(),
-                l.as_mut_ptr(),
-                l.len(),
-                a.as_mut_ptr(),
-                a.len(),
-                o.as_mut_ptr(),
-                o.len(),
-            )
-        };
+        let o = out.part_mut();
+        let code = lend_mut!(nca_table_set_up, self, o.as_mut_ptr(), o.len());
         self.after("set-up", code, before, true, &out);
         self.served(code, &out).map(|_| ())
     }
@@ -223,55 +227,17 @@ impl Table {
 
     pub fn add_leaf(&mut self, scratch: &Lent<u16>, parent: u16, label: u16) -> Reply<Grown> {
         let (before, kept, mut out) = (self.copy(), self.watched.then(|| scratch.clone()), Lent::<u16>::marked(4));
-        let code = unsafe {
-            let s = scratch.part();
-            let (f, n, l, a, o) =
-                (self.fields.part_mut(), self.numbers.part_mut(), self.levels.part_mut(), self.ancestors.part_mut(), out.part_mut());
-            raw::nca_table_add_leaf(
-                f.as_mut_ptr(),
-                f.len(),
-                n.as_mut_ptr(),
-                n.len(),
-                l.as_mut_ptr(),
-                l.len(),
-                a.as_mut_ptr(),
-                a.len(),
-                s.as_ptr(),
-                s.len(),
-                self.count,
-                self.root,
-                parent,
-                label,
-                o.as_mut_ptr(),
-                o.len(),
-            )
-        };
+        let s = scratch.part();
+        let o = out.part_mut();
+        let code = lend_mut!(nca_table_add_leaf, self, s.as_ptr(), s.len(), self.count, self.root, parent, label, o.as_mut_ptr(), o.len());
         self.grown("leaf", code, before, scratch, kept, &out)
     }
 
     pub fn add_root(&mut self, scratch: &Lent<u16>) -> Reply<Grown> {
         let (before, kept, mut out) = (self.copy(), self.watched.then(|| scratch.clone()), Lent::<u16>::marked(4));
-        let code = unsafe {
-            let s = scratch.part();
-            let (f, n, l, a, o) =
-                (self.fields.part_mut(), self.numbers.part_mut(), self.levels.part_mut(), self.ancestors.part_mut(), out.part_mut());
-            raw::nca_table_add_root(
-                f.as_mut_ptr(),
-                f.len(),
-                n.as_mut_ptr(),
-                n.len(),
-                l.as_mut_ptr(),
-                l.len(),
-                a.as_mut_ptr(),
-                a.len(),
-                s.as_ptr(),
-                s.len(),
-                self.count,
-                self.root,
-                o.as_mut_ptr(),
-                o.len(),
-            )
-        };
+        let s = scratch.part();
+        let o = out.part_mut();
+        let code = lend_mut!(nca_table_add_root, self, s.as_ptr(), s.len(), self.count, self.root, o.as_mut_ptr(), o.len());
         self.grown("new root", code, before, scratch, kept, &out)
     }
 
@@ -295,26 +261,8 @@ impl Table {
     /// Nearest common ancestor, branches, distances and label.
     pub fn query(&self, x: u16, y: u16) -> Reply<[i32; 6]> {
         let (before, mut out) = (self.copy(), Lent::<i32>::marked(6));
-        let code = unsafe {
-            let (f, n, l, a) = (self.fields.part(), self.numbers.part(), self.levels.part(), self.ancestors.part());
-            let o = out.part_mut();
-            raw::nca_table_query(
-                f.as_ptr(),
-                f.len(),
-                n.as_ptr(),
-                n.len(),
-                l.as_ptr(),
-                l.len(),
-                a.as_ptr(),
-                a.len(),
-                self.count,
-                self.root,
-                x,
-                y,
-                o.as_mut_ptr(),
-                o.len(),
-            )
-        };
+        let o = out.part_mut();
+        let code = lend!(nca_table_query, self, self.count, self.root, x, y, o.as_mut_ptr(), o.len());
         self.after("question", code, before, false, &out);
         if code == 0 {
             Ok(out.part().try_into().unwrap())
@@ -325,26 +273,8 @@ impl Table {
 
     pub fn alike(&self, x: u16, y: u16) -> Reply<u16> {
         let (before, mut out) = (self.copy(), Lent::<u16>::marked(1));
-        let code = unsafe {
-            let (f, n, l, a) = (self.fields.part(), self.numbers.part(), self.levels.part(), self.ancestors.part());
-            let o = out.part_mut();
-            raw::nca_table_alike(
-                f.as_ptr(),
-                f.len(),
-                n.as_ptr(),
-                n.len(),
-                l.as_ptr(),
-                l.len(),
-                a.as_ptr(),
-                a.len(),
-                self.count,
-                self.root,
-                x,
-                y,
-                o.as_mut_ptr(),
-                o.len(),
-            )
-        };
+        let o = out.part_mut();
+        let code = lend!(nca_table_alike, self, self.count, self.root, x, y, o.as_mut_ptr(), o.len());
         self.after("alike", code, before, false, &out);
         if code == 0 {
             Ok(out.part()[0])
@@ -355,26 +285,8 @@ impl Table {
 
     pub fn inspect(&self, scratch: &mut Lent<u16>) -> Reply<u16> {
         let (before, kept, mut out) = (self.copy(), scratch.clone(), Lent::<u16>::marked(1));
-        let code = unsafe {
-            let (f, n, l, a) = (self.fields.part(), self.numbers.part(), self.levels.part(), self.ancestors.part());
-            let (s, o) = (scratch.part_mut(), out.part_mut());
-            raw::nca_table_inspect(
-                f.as_ptr(),
-                f.len(),
-                n.as_ptr(),
-                n.len(),
-                l.as_ptr(),
-                l.len(),
-                a.as_ptr(),
-                a.len(),
-                s.as_mut_ptr(),
-                s.len(),
-                self.count,
-                self.root,
-                o.as_mut_ptr(),
-                o.len(),
-            )
-        };
+        let (s, o) = (scratch.part_mut(), out.part_mut());
+        let code = lend!(nca_table_inspect, self, s.as_mut_ptr(), s.len(), self.count, self.root, o.as_mut_ptr(), o.len());
         self.after("inspection", code, before, false, &out);
         check(scratch.is_guarded(), || "inspection touched a guard of the scratch".into());
         check(code == 0 || kept.part() == scratch.part(), || format!("inspection gave {code} and changed the scratch"));
