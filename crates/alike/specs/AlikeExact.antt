@@ -1,5 +1,5 @@
--- On a table that passes inspection the alike call on two nodes below the count is served, and its outcome is 1 exactly when their lists of labels,
--- by the naive definition on the plain tree that the table records, are equal.
+-- On a table that passes inspection the alike call on two nodes below the count that have a common ancestor is served, and its outcome is 1 exactly when
+-- their lists of labels, by the naive definition on the plain trees that the table records, are equal. On nodes of different trees it is refusal 12.
 use mathlib.Core.Path.{_≡_, refl, ap, sym, _∙_}
 use mathlib.Core.Bool.{Bool, true, false}
 use mathlib.Core.Logic.{inl, inr, _≢_}
@@ -10,21 +10,23 @@ use lib.IntN.{ℤ, pos, _+ℤ_, _-ℤ_, +ℤ-comm, +ℤ-negℤ-cancel}
 use Rattle.laws.specs.Test.{Says, holds, fails, says-eq, says-true, says-false, says-map, says-eqb}
 use Rattle.tree_laws.specs.Ancestor.{none}
 use Rattle.tree_laws.specs.AncestorLaws.{cases}
-use Rattle.tree_laws.specs.Depth.{Depth}
+use Rattle.tree_laws.specs.Nca.{Kindred}
 use Rattle.tree_laws.specs.RerootLaws.{plain-root-over}
 use Rattle.tree_laws.specs.SizeDepth.{depth-below}
-use Rattle.rows.specs.declared.refusal.Refusal.the-variants.{Corrupt}
+use Rattle.rows.specs.declared.refusal.Refusal.the-variants.{Corrupt, OtherTree}
 use Rattle.rows.specs.declared.state.State.{State}
 use Rattle.rows.specs.Row.{Parts}
 use Rattle.rows.specs.Capacity.{capacityLimit, Fits}
 use Rattle.rows.specs.Table.{Table, label, level}
-use Rattle.rows.specs.PlainTree.{plain}
+use Rattle.rows.specs.PlainTree.{first, plain}
 use Rattle.rows.specs.Answer.{SameLabels}
-use Rattle.rows.specs.Rules.{Rules}
-use Rattle.numbering.specs.Numbered.{numbered, storedTree, stored-kindred}
-use Rattle.numbering.specs.LevelLaws.{plainDepthOf, level-root}
+use Rattle.rows.specs.Rules.{Rules, numbered}
+use Rattle.numbering.specs.Numbered.{InTree, in-tree, storedTree, stored-kindred}
+use Rattle.numbering.specs.Lines.{root-in}
+use Rattle.numbering.specs.LevelLaws.{plain-tree, level-root}
 use Rattle.question.specs.CompressedExact.{row-passes}
-use Rattle.question.specs.PlainExact.{plain-tree}
+use Rattle.question.specs.PlainShape.{plainDepthOf, plain-shape, plain-depth-is, plain-parent-in, kindred-first, first-kindred}
+use Rattle.question.specs.SoughtExact.{sought-one, sought-two}
 use Rattle.rows.specs.CapacityLaws.{fits-told}
 use Rattle.question.specs.QuestionExact.{recorded, rules-standing}
 use Rattle.query.specs.LevelLaws.{says-eqZ}
@@ -33,9 +35,9 @@ use Rattle.alike.specs.PlainParentExact.{plain-up}
 use Rattle.alike.specs.Walk.{turnAt}
 use Rattle.alike.specs.Outcome.{Outcome, same, refused}
 use Rattle.alike.specs.Alike.{after, walked, served, alike}
-use Rattle.alike.specs.AlikeLaws.{alike-unknown-x, alike-unknown-y, alike-served}
+use Rattle.alike.specs.AlikeLaws.{alike-unknown-x, alike-unknown-y, alike-other, alike-served}
 
--- x and y have equal lists of labels on the plain tree of the table t
+-- x and y have equal lists of labels on the plain trees of the table t
 abbrev pub Alike : Table → ℕ → ℕ → Type 0
 Alike t x y = SameLabels (plain t) (label t) x y
 
@@ -52,81 +54,106 @@ add-unique l {m} {n} e =
     let z : pos m ≡ pos n = sym (+ℤ-negℤ-cancel (pos m) l) ∙ ap (λ (k : ℤ). k -ℤ l) (+ℤ-comm (pos m) l ∙ e ∙ +ℤ-comm l (pos n)) ∙ +ℤ-negℤ-cancel (pos n) l in
     cc
 
-module _ {capacity : ℕ} {t : Table} (r : Rules capacity t) (fits : capacity ≤ capacityLimit) where
+-- in the tree of f, whose root is its root
+module _ {capacity : ℕ} {t : Table} (r : Rules capacity t) (fits : capacity ≤ capacityLimit) {f : ℕ} where
   -- rows of one level are those of one depth in the plain tree
-  level-depth : {x y : ℕ} → x < t .count → y < t .count → level t x ≡ level t y → plainDepthOf t x ≡ plainDepthOf t y
-  level-depth {x} {y} l m e = add-unique (level t (t .root)) (sym (level-root r fits x l) ∙ e ∙ level-root r fits y m)
+  level-depth : {x y : ℕ} → InTree t f x → InTree t f y → level t x ≡ level t y → plainDepthOf t x ≡ plainDepthOf t y
+  level-depth {x} {y} i j e =
+      plain-depth-is r fits i ∙ add-unique (level t (t .root f)) (sym (level-root r fits x i) ∙ e ∙ level-root r fits y j) ∙ sym (plain-depth-is r fits j)
 
-  depth-level : {x y : ℕ} → x < t .count → y < t .count → plainDepthOf t x ≡ plainDepthOf t y → level t x ≡ level t y
-  depth-level {x} {y} l m e = level-root r fits x l ∙ ap (λ (d : ℕ). level t (t .root) +ℤ pos d) e ∙ sym (level-root r fits y m)
+  depth-level : {x y : ℕ} → InTree t f x → InTree t f y → plainDepthOf t x ≡ plainDepthOf t y → level t x ≡ level t y
+  depth-level {x} {y} i j e =
+      level-root r fits x i ∙ ap (λ (d : ℕ). level t (t .root f) +ℤ pos d) (sym (plain-depth-is r fits i) ∙ e ∙ plain-depth-is r fits j) ∙ sym (level-root r fits y j)
 
   -- only the root has no plain parent
-  top-root : {x : ℕ} → x < t .count → plain t x ≡ none → x ≡ t .root
-  top-root {x} l e =
-      let o : t .root < t .count = r .one .root (omega arith) in
-      elim (cases (plain-root-over (storedTree (numbered r fits)) o l (stored-kindred r fits x (t .root) l o))) [ inl z ↦ sym z | inr s ↦ absurd (s .0 e) ]
+  top-root : {x : ℕ} → InTree t f x → plain t x ≡ none → x ≡ t .root f
+  top-root {x} i e =
+      let o = root-in r fits i in
+      elim (cases (plain-root-over (storedTree (numbered r fits)) (o .inUse) (i .inUse) (stored-kindred (numbered r fits) i o))) [
+        | inl z ↦ sym z
+        | inr s ↦ absurd (s .0 (sym (plain-tree r fits i) ∙ e))
+      ]
 
   -- so of two rows of one depth each has a plain parent
-  some-parent : {x y : ℕ} → x < t .count → y < t .count → x ≢ y → plainDepthOf t x ≡ plainDepthOf t y → plain t x ≢ none
-  some-parent {x} {y} l m d e z = elim (ℕ-discrete (plain t y) none) [
-    | yes i ↦ d (top-root l z ∙ sym (top-root m i))
-    | no i ↦ omega (arith, plain-tree r fits l .root x l z, plain-tree r fits l .step y m i)
+  some-parent : {x y : ℕ} → InTree t f x → InTree t f y → x ≢ y → plainDepthOf t x ≡ plainDepthOf t y → plain t x ≢ none
+  some-parent {x} {y} i j d e z = elim (ℕ-discrete (plain t y) none) [
+    | yes w ↦ d (top-root i z ∙ sym (top-root j w))
+    | no w ↦ omega (arith, plain-shape r fits .root x (i .inUse) z, plain-shape r fits .step y (j .inUse) w)
   ]
 
   -- a turn is right where the walk from the plain parents is
-  turn-exact : (x y : ℕ) (on : ℕ → ℕ → Outcome) → x < t .count → y < t .count
+  turn-exact : (x y : ℕ) (on : ℕ → ℕ → Outcome) → InTree t f x → InTree t f y
       → (plain t x ≢ none → plain t y ≢ none → ExactOutcome t (plain t x) (plain t y) (on (plain t x) (plain t y)))
-      → ExactOutcome t x y (after (turnAt t x y) on)
+      → ExactOutcome t x y (after (turnAt t (t .root f) x y) on)
   unfolding turnAt
-  turn-exact x y on l m rest =
-      let tree = plain-tree r fits l in
-      rw (row-passes r fits x l, row-passes r fits y m, plain-up r fits x l, plain-up r fits y m) (elim (ℕ-discrete (plainDepthOf t x) (plainDepthOf t y)) [
-        | no d ↦ rw (says-false (says-eqZ (level t x) (level t y)) (λ e. d (level-depth l m e)))
+  turn-exact x y on i j rest =
+      let tree = plain-shape r fits in
+      let l = i .inUse in
+      let m = j .inUse in
+      rw (row-passes r fits x l, row-passes r fits y m, plain-up r fits x i, plain-up r fits y j) (elim (ℕ-discrete (plainDepthOf t x) (plainDepthOf t y)) [
+        | no d ↦ rw (says-false (says-eqZ (level t x) (level t y)) (λ e. d (level-depth i j e)))
             record { value = false; says = fails (λ s. d (same-depth tree (label t) l m s)); outcome = refl }
-        | yes e ↦ rw (says-true (says-eqZ (level t x) (level t y)) (depth-level l m e)) (elim (ℕ-discrete x y) [
+        | yes e ↦ rw (says-true (says-eqZ (level t x) (level t y)) (depth-level i j e)) (elim (ℕ-discrete x y) [
           | yes z ↦ rw (says-true (says-eqb x y) z) record { value = true; says = holds (rw z (same-itself tree (label t) y m)); outcome = refl }
           | no d ↦
-              let h = some-parent l m d e in
-              let k = some-parent m l (λ z. d (sym z)) (sym e) in
+              let h = some-parent i j d e in
+              let k = some-parent j i (λ z. d (sym z)) (sym e) in
               let up = same-above tree (label t) l m h k in
               rw (says-false (says-eqb x y) d) (elim (ℕ-discrete (label t x) (label t y)) [
-                | no f ↦ rw (says-false (says-eqb (label t x) (label t y)) f) record { value = false; says = fails (λ s. f (up s .last)); outcome = refl }
-                | yes f ↦
+                | no w ↦ rw (says-false (says-eqb (label t x) (label t y)) w) record { value = false; says = fails (λ s. w (up s .last)); outcome = refl }
+                | yes w ↦
                     let o = rest h k in
-                    rw (says-true (says-eqb (label t x) (label t y)) f) record {
+                    rw (says-true (says-eqb (label t x) (label t y)) w) record {
                       value = o .value;
-                      says = says-map (λ s. same-below tree (label t) h k record { last = f; above = s }) (λ s. up s .above) (o .says);
+                      says = says-map (λ s. same-below tree (label t) h k record { last = w; above = s }) (λ s. up s .above) (o .says);
                       outcome = o .outcome;
                     }
               ])
         ])
       ])
 
-  walk-exact : (n x y : ℕ) → x < t .count → y < t .count → plainDepthOf t x < n → ExactOutcome t x y (walked t n x y)
+  walk-exact : (n x y : ℕ) → InTree t f x → InTree t f y → plainDepthOf t x < n → ExactOutcome t x y (walked t (t .root f) n x y)
   unfolding walked
-  walk-exact zero x y l m d = absurd (omega arith)
-  walk-exact (suc n) x y l m d =
-      let tree = plain-tree r fits l in
-      turn-exact x y (walked t n) l m (λ h k. walk-exact n (plain t x) (plain t y) (tree .inside x l h) (tree .inside y m k) (omega (arith, tree .step x l h)))
+  walk-exact zero x y i j d = absurd (omega arith)
+  walk-exact (suc n) x y i j d =
+      turn-exact x y (walked t (t .root f) n) i j
+      (λ h k. walk-exact n (plain t x) (plain t y) (plain-parent-in r fits i h) (plain-parent-in r fits j k) (omega (arith, plain-shape r fits .step x (i .inUse) h)))
 
-  served-exact : (x y : ℕ) → x < t .count → y < t .count → ExactOutcome t x y (served t x y)
+  served-exact : (x y : ℕ) → InTree t f x → InTree t f y → ExactOutcome t x y (served t (t .root f) x y)
   unfolding served
-  served-exact x y l m =
-      rw (row-passes r fits (t .root) (r .one .root (omega arith))) (walk-exact (t .count) x y l m (depth-below (plain-tree r fits l) x l))
+  served-exact x y i j =
+      rw (row-passes r fits (t .root f) (root-in r fits i .inUse)) (walk-exact (t .count) x y i j (depth-below (plain-shape r fits) x (i .inUse)))
+
+module _ {c : ℕ} (parts : Parts) (state : State) (x y : ℕ) (fits : Fits c parts) (r : Rules c (recorded parts state))
+    (l : x < state .count) (m : y < state .count) where
+  -- by the first rows of their trees
+  tree-exact : first (recorded parts state) x ≡ first (recorded parts state) y → ExactOutcome (recorded parts state) x y (alike parts state x y)
+  tree-exact e =
+      let i = in-tree (numbered r (fits .most)) x l in
+      let j : InTree (recorded parts state) (first (recorded parts state) x) y = rw e (in-tree (numbered r (fits .most)) y m) in
+      let o = sought-one parts (state .count) x y r (fits .most) l m e in
+      rw (← alike-served parts state x y (fits-told fits) l m (rules-standing parts state r) o) (served-exact r (fits .most) x y i j)
+
+  other-tree : first (recorded parts state) x ≢ first (recorded parts state) y → alike parts state x y ≡ refused OtherTree
+  other-tree d = sym (alike-other parts state x y (fits-told fits) l m (rules-standing parts state r) (sought-two parts (state .count) x y r (fits .most) l m d))
 
 -- The theorem
 
 pub alike-exact : {c : ℕ} (parts : Parts) (state : State) (x y : ℕ) → Fits c parts → Rules c (recorded parts state) → x < state .count → y < state .count
-    → ExactOutcome (recorded parts state) x y (alike parts state x y)
-alike-exact parts state x y f r l m =
-    rw (← alike-served parts state x y (fits-told f) l m (rules-standing parts state r)) (served-exact r (f .most) x y l m)
+    → Kindred (plain (recorded parts state)) x y → ExactOutcome (recorded parts state) x y (alike parts state x y)
+alike-exact parts state x y f r l m k = tree-exact parts state x y f r l m (kindred-first r (f .most) l m k)
+
+pub alike-other-tree : {c : ℕ} (parts : Parts) (state : State) (x y : ℕ) → Fits c parts → Rules c (recorded parts state) → x < state .count → y < state .count
+    → ¬ Kindred (plain (recorded parts state)) x y → alike parts state x y ≡ refused OtherTree
+alike-other-tree parts state x y f r l m k = other-tree parts state x y f r l m (λ e. k (first-kindred r (f .most) l m e))
 
 -- What follows from it
 
 module _ {c : ℕ} (parts : Parts) (state : State) (f : Fits c parts) (r : Rules c (recorded parts state)) where
   -- whatever test says whether x and y are alike gives the outcome
-  pub alike-value : {x y : ℕ} {b : Bool} → x < state .count → y < state .count → Says (Alike (recorded parts state) x y) b → alike parts state x y ≡ same b
-  alike-value {x} {y} l m s = let e = alike-exact parts state x y f r l m in e .outcome ∙ ap same (says-eq (λ h. h) (λ h. h) (e .says) s)
+  pub alike-value : {x y : ℕ} {b : Bool} → x < state .count → y < state .count → Kindred (plain (recorded parts state)) x y
+      → Says (Alike (recorded parts state) x y) b → alike parts state x y ≡ same b
+  alike-value {x} {y} l m k s = let e = alike-exact parts state x y f r l m k in e .outcome ∙ ap same (says-eq (λ h. h) (λ h. h) (e .says) s)
 
   -- no call gives refusal 4, on whatever nodes
   pub alike-not-corrupt : (x y : ℕ) → alike parts state x y ≢ refused Corrupt
@@ -134,6 +161,9 @@ module _ {c : ℕ} (parts : Parts) (state : State) (f : Fits c parts) (r : Rules
     | no i ↦ let u = alike-unknown-x parts state x y (fits-told f) (omega arith) in let z : _≡_ {A = ℕ} 0 1 = cc in omega arith
     | yes l ↦ elim (decLt y (state .count)) [
       | no j ↦ let u = alike-unknown-y parts state x y (fits-told f) l (omega arith) in let z : _≡_ {A = ℕ} 0 1 = cc in omega arith
-      | yes m ↦ let u = alike-exact parts state x y f r l m .outcome in let z : _≡_ {A = ℕ} 0 1 = cc in omega arith
+      | yes m ↦ elim (ℕ-discrete (first (recorded parts state) x) (first (recorded parts state) y)) [
+        | yes k ↦ let u = tree-exact parts state x y f r l m k .outcome in let z : _≡_ {A = ℕ} 0 1 = cc in omega arith
+        | no d ↦ let u = other-tree parts state x y f r l m d in let z : _≡_ {A = ℕ} 0 1 = cc in omega arith
+      ]
     ]
   ]

@@ -1,8 +1,7 @@
 -- On a table that passes inspection the plain parent that the code finds is that of the plain tree.
 use mathlib.Core.Path.{_≡_, refl, sym, _∙_}
 use mathlib.Core.Bool.{Bool, true, false}
-use Prim.Native.Nat.{ℕ, _≤_, _<_}
-use native.Mathlib.Omega.{arith}
+use Prim.Native.Nat.{ℕ, _≤_}
 use lib.Dec.{eqb}
 use Rattle.laws.specs.Test.{says-eq, says-eqb, pick}
 use Rattle.tree_laws.specs.Ancestor.{none, Forest}
@@ -11,8 +10,10 @@ use Rattle.tree_laws.specs.PlainFromStored.{plainStep, plain-parent-step}
 use Rattle.rows.specs.Capacity.{capacityLimit}
 use Rattle.rows.specs.Table.{Table, parent, depth}
 use Rattle.rows.specs.PlainTree.{plain}
-use Rattle.rows.specs.Rules.{Rules}
-use Rattle.numbering.specs.Numbered.{numbered, storedTree}
+use Rattle.rows.specs.Rules.{Rules, numbered}
+use Rattle.numbering.specs.Numbered.{InTree, storedTree}
+use Rattle.numbering.specs.Lines.{root-in}
+use Rattle.numbering.specs.LevelLaws.{plain-tree}
 use Rattle.query.specs.Line.{isLineLevel}
 use Rattle.query.specs.StoredAnswer.{storedAnswer}
 use Rattle.question.specs.StoredExact.{stored-exact}
@@ -29,16 +30,15 @@ module _ {capacity : ℕ} {t : Table} (r : Rules capacity t) (fits : capacity �
   tree = storedTree (numbered r fits)
 
   -- the level of z is minus its depth exactly where z is its own nearest common ancestor with the root
-  line-test : (z : ℕ) → z < t .count → isLineLevel t z ≡ eqb (storedAnswer t z (t .root) .nca) z
-  line-test z l =
-      let nca = stored-exact r fits z (t .root) l (r .one .root (omega arith)) .characteristic .nca in
-      says-eq (λ o. nca-unique tree l nca (nca-anc o)) (λ e. rw e at (nca .right)) (says-line r fits z l) (says-eqb (storedAnswer t z (t .root) .nca) z)
+  line-test : {f : ℕ} (z : ℕ) → InTree t f z → isLineLevel t z ≡ eqb (storedAnswer t z (t .root f) .nca) z
+  line-test {f} z i =
+      let nca = stored-exact r fits z (t .root f) i (root-in r fits i) .characteristic .nca in
+      says-eq (λ o. nca-unique tree (i .inUse) nca (nca-anc o)) (λ e. rw e at (nca .right)) (says-line r fits z i) (says-eqb (storedAnswer t z (t .root f) .nca) z)
 
-  pub plain-up : (z : ℕ) → z < t .count → plainUp t z ≡ plain t z
+  pub plain-up : {f : ℕ} (z : ℕ) → InTree t f z → plainUp t (t .root f) z ≡ plain t z
   unfolding plainUp towardRoot plainStep
-  plain-up z l =
-      let o : t .root < t .count = r .one .root (omega arith) in
-      let f = stored-exact r fits z (t .root) l o in
-      rw (line-test z l, f .sound)
-      (pick-twice (eqb z (t .root)) (eqb (storedAnswer t z (t .root) .nca) z) none (storedAnswer t z (t .root) .«to_y») (parent t z) ∙
-      sym (plain-parent-step tree o l (f .characteristic)))
+  plain-up {f} z i =
+      let a = stored-exact r fits z (t .root f) i (root-in r fits i) in
+      rw (line-test z i, a .sound)
+      (pick-twice (eqb z (t .root f)) (eqb (storedAnswer t z (t .root f) .nca) z) none (storedAnswer t z (t .root f) .«to_y») (parent t z) ∙
+      sym (plain-parent-step tree (root-in r fits i .inUse) (i .inUse) (a .characteristic)) ∙ sym (plain-tree r fits i))

@@ -20,15 +20,10 @@ use rows::row::field;
 use rows::row::number;
 use span::Span;
 ghost use mathlib.Core.Path.{_≡_};
-ghost use lib.Dec.{eqb};
-ghost use Rattle.laws.specs.Test.{pick};
-ghost use Rattle.tree_laws.specs.Ancestor.{none};
-ghost use Rattle.rows.specs.Layout.{upperPlace};
-ghost use Rattle.rows.specs.Row.{fieldAt};
 ghost use Rattle.growth.specs.Good.{Held};
-ghost use Rattle.growth.specs.Plan.{upperFor, oldHead, headOf, isSeated, isWhole, plannedAt, plannedRow};
+ghost use Rattle.growth.specs.Plan.{upperFor, oldHead, headOf, isFirst, isSeated, isWhole, plannedAt, plannedRow};
 
-// A growth that will be served: the leaf, its upper row, depth, level and label, the head, and the root afterwards.
+// A row that will join: the leaf, its upper row, depth, level and label, the head, and the row that will record it as a root, or none.
 pub struct Plan {
     pub leaf: Leaf,
     pub upper: u16,
@@ -36,23 +31,25 @@ pub struct Plan {
     pub level: i32,
     pub label: u16,
     pub head: Head,
-    pub root: u16,
+    pub tree: u16,
 }
 
+// A row that joins, a first node, or why neither.
 pub enum Planned {
     Grow(Plan),
+    Start(u16),
     Refuse(Refusal),
 }
 
-// The upper row of a leaf under p: p where it is an apex, else p's own; none where p, not row 0, has no parent in use.
+// The upper row of a leaf under p: p where it is an apex, else p's own; none where p has a parent that is no row in use.
 fn upper_for(fields: &[u16], numbers: &[u64], levels: &[i32], count: u16, p: u16) -> u16
     requires { ⌜ Held count (now fields) (now numbers) (now levels) ⌝ }
     ensures { λ r. ⌜ r ≡ upperFor (now (fields .entry)) (now (numbers .entry)) (now (levels .entry)) count p ⌝ }
 {
-    if p == 0 {
-        return 0;
-    }
     let q = field(fields, p, PARENT);
+    if q == NONE {
+        return p;
+    }
     if !is_good(fields, numbers, levels, count, q) {
         return NONE;
     }
@@ -62,23 +59,13 @@ fn upper_for(fields: &[u16], numbers: &[u64], levels: &[i32], count: u16, p: u16
     p
 }
 
-// The upper row of an old head; row 0 has none.
-fn upper_above(fields: &[u16], top: u16) -> u16
-    ensures { λ r. ⌜ r ≡ pick (eqb top 0) none (fieldAt (now (fields .entry)) top upperPlace) ⌝ }
-{
-    if top == 0 {
-        return NONE;
-    }
-    field(fields, top, UPPER)
-}
-
 // An old head, with one row more below it.
 fn old_head(fields: &[u16], top: u16) -> Head
     ensures { λ r. ⌜ r ≡ oldHead (now (fields .entry)) top ⌝ }
 {
     Head {
         row: top,
-        upper: upper_above(fields, top),
+        upper: field(fields, top, UPPER),
         rows: one_more(field(fields, top, SIZE)),
     }
 }
@@ -97,12 +84,23 @@ fn head_of(fields: &[u16], top: u16, leaf: u16, upper: u16) -> Head
     old_head(fields, top)
 }
 
-// The head is row 0 or has an upper row, and its span lies within the limit.
-fn is_seated(numbers: &[u64], head: Head) -> bool
-    ensures { λ r. ⌜ r ≡ isSeated (now (numbers .entry)) head ⌝ }
+// A head that is not the leaf and has no parent: the first row of a tree.
+fn is_first(fields: &[u16], leaf: u16, head: u16) -> bool
+    ensures { λ r. ⌜ r ≡ isFirst (now (fields .entry)) leaf head ⌝ }
+{
+    if head == leaf {
+        return false;
+    }
+    field(fields, head, PARENT) == NONE
+}
+
+// The head is the first row of a tree or has an upper row, and its span lies within the limit.
+fn is_seated(fields: &[u16], numbers: &[u64], leaf: u16, head: Head) -> bool
+    ensures { λ r. ⌜ r ≡ isSeated (now (fields .entry)) (now (numbers .entry)) leaf head ⌝ }
 {
     let inside = Span::new(number(numbers, head.upper, NEXT_FREE), head.rows).within_limit();
-    ((head.row == 0) | (head.upper != NONE)) & inside
+    let first = is_first(fields, leaf, head.row);
+    (first | (head.upper != NONE)) & inside
 }
 
 // The walk below a head that is not the leaf meets as many rows as its size says.
@@ -131,30 +129,31 @@ fn is_whole(
     )
 }
 
-// The plan of a leaf under p whose chain has this top.
+// The plan of the leaf z under p whose chain has this top.
 fn plan_at(
     fields: &[u16],
     numbers: &[u64],
     levels: &[i32],
     count: u16,
+    z: u16,
     p: u16,
     upper: u16,
     top: u16,
     depth: u16,
     level: i32,
     label: u16,
-    root: u16,
+    tree: u16,
 ) -> Planned
     requires { ⌜ Held count (now fields) (now numbers) (now levels) ⌝ }
-    ensures { λ r. ⌜ r ≡ plannedAt (now (fields .entry)) (now (numbers .entry)) (now (levels .entry)) count p upper top depth level label root ⌝ }
+    ensures { λ r. ⌜ r ≡ plannedAt (now (fields .entry)) (now (numbers .entry)) (now (levels .entry)) count z p upper top depth level label tree ⌝ }
 {
     let leaf = Leaf {
-        row: count,
+        row: z,
         parent: p,
         prev: field(fields, p, LAST),
     };
-    let head = head_of(fields, top, count, upper);
-    if !is_seated(numbers, head) {
+    let head = head_of(fields, top, z, upper);
+    if !is_seated(fields, numbers, z, head) {
         return Planned::Refuse(Refusal::Corrupt);
     }
     if !is_whole(fields, numbers, levels, count, leaf, head) {
@@ -167,23 +166,24 @@ fn plan_at(
         level: level,
         label: label,
         head: head,
-        root: root,
+        tree: tree,
     })
 }
 
-// The plan of a leaf under p, at this level.
+// The plan of the row z as a leaf under p, at this level: z is the count, or a row in use that is a tree by itself.
 pub fn plan_row(
     fields: &[u16],
     numbers: &[u64],
     levels: &[i32],
     count: u16,
+    z: u16,
     p: u16,
     level: i32,
     label: u16,
-    root: u16,
+    tree: u16,
 ) -> Planned
     requires { ⌜ Held count (now fields) (now numbers) (now levels) ⌝ }
-    ensures { λ r. ⌜ r ≡ plannedRow (now (fields .entry)) (now (numbers .entry)) (now (levels .entry)) count p level label root ⌝ }
+    ensures { λ r. ⌜ r ≡ plannedRow (now (fields .entry)) (now (numbers .entry)) (now (levels .entry)) count z p level label tree ⌝ }
 {
     if !is_good(fields, numbers, levels, count, p) {
         return Planned::Refuse(Refusal::Corrupt);
@@ -198,12 +198,13 @@ pub fn plan_row(
         numbers,
         levels,
         count,
+        z,
         p,
         upper,
         top,
         depth,
         level,
         label,
-        root,
+        tree,
     )
 }

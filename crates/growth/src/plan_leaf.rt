@@ -6,17 +6,20 @@ use crate::plan::plan_row;
 use rows::capacity::Fit;
 use rows::capacity::capacity;
 use rows::layout::LARGEST_LABEL;
+use rows::layout::NONE;
 use rows::refusal::Refusal;
 use rows::row::level;
 use rows::state::State;
 use rows::state::is_standing;
+use rows::tree::root_of;
+use rows::tree::tree_of;
 ghost use mathlib.Core.Path.{_≡_};
 ghost use lib.ListN.{length};
 ghost use Rattle.rows.specs.Row.{partsOf};
 ghost use Rattle.growth.specs.Plan.{isLabel, leafPlan};
 
 // A label that a leaf may have.
-fn is_label(label: u16) -> bool
+pub fn is_label(label: u16) -> bool
     ensures { λ r. ⌜ r ≡ isLabel label ⌝ }
 {
     (1 <= label) & (label <= LARGEST_LABEL)
@@ -53,6 +56,9 @@ pub fn plan_leaf(
     if !is_standing(cap, state) {
         return Planned::Refuse(Refusal::Corrupt);
     }
+    if root_of(fields, state.count, tree_of(ancestors, state.count, parent)) == NONE {
+        return Planned::Refuse(Refusal::Corrupt);
+    }
     let Level::At(at) = leaf_level(level(levels, parent)) else {
         return Planned::Refuse(Refusal::Corrupt);
     };
@@ -61,9 +67,10 @@ pub fn plan_leaf(
         numbers,
         levels,
         state.count,
+        state.count,
         parent,
         at,
         label,
-        state.root,
+        NONE,
     )
 }

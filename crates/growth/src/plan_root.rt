@@ -1,11 +1,8 @@
 // A new root before the first store: its refusals in their order, and its plan.
-use crate::attach::Leaf;
 use crate::level::Level;
 use crate::level::root_level;
-use crate::plan::Plan;
 use crate::plan::Planned;
 use crate::plan::plan_row;
-use renumber::Head;
 use rows::capacity::Fit;
 use rows::capacity::capacity;
 use rows::layout::NONE;
@@ -13,37 +10,108 @@ use rows::refusal::Refusal;
 use rows::row::level;
 use rows::state::State;
 use rows::state::is_standing;
+use rows::tree::root_of;
+use rows::tree::tree_of;
 ghost use mathlib.Core.Path.{_≡_};
 ghost use lib.ListN.{length};
 ghost use Rattle.rows.specs.Row.{partsOf};
-ghost use Rattle.growth.specs.Plan.{firstRoot, rootPlan};
+ghost use Rattle.growth.specs.Good.{Held};
+ghost use Rattle.growth.specs.Plan.{firstPlan, overPlan, rootOver, rootPlan};
 
-// The plan of the first row of all.
-fn first_root() -> Plan
-    ensures { λ r. ⌜ r ≡ firstRoot ⌝ }
+// The plan of a new root over r, the root of the tree whose first row is `tree`.
+fn plan_above(
+    fields: &[u16],
+    numbers: &[u64],
+    levels: &[i32],
+    ancestors: &[u16],
+    state: State,
+    tree: u16,
+    r: u16,
+) -> Planned
+    requires { ⌜ Held (state .count) (now fields) (now numbers) (now levels) ⌝ }
+    ensures { λ o. ⌜ o ≡ rootOver (partsOf (now (fields .entry)) (now (numbers .entry)) (now (levels .entry)) (now (ancestors .entry))) state tree r ⌝ }
 {
-    let leaf = Leaf {
-        row: 0,
-        parent: NONE,
-        prev: NONE,
+    let Level::At(at) = root_level(level(levels, r)) else {
+        return Planned::Refuse(Refusal::Corrupt);
     };
-    let head = Head {
-        row: 0,
-        upper: NONE,
-        rows: 1,
-    };
-    Plan {
-        leaf: leaf,
-        upper: NONE,
-        depth: 0,
-        level: 0,
-        label: 0,
-        head: head,
-        root: 0,
-    }
+    plan_row(
+        fields,
+        numbers,
+        levels,
+        state.count,
+        state.count,
+        r,
+        at,
+        0,
+        tree,
+    )
 }
 
-// Why a new root is refused, or its plan.
+// Why a first node is refused, or its plan.
+pub fn plan_first(
+    fields: &[u16],
+    numbers: &[u64],
+    levels: &[i32],
+    ancestors: &[u16],
+    scratch: &[u16],
+    state: State,
+) -> Planned
+    ensures { λ r. ⌜ r ≡ firstPlan (partsOf (now (fields .entry)) (now (numbers .entry)) (now (levels .entry)) (now (ancestors .entry))) (length (now (scratch .entry))) state ⌝ }
+{
+    let Fit::Capacity(cap) = capacity(fields, numbers, levels, ancestors) else {
+        return Planned::Refuse(Refusal::Misfit);
+    };
+    if scratch.len() != cap {
+        return Planned::Refuse(Refusal::Misfit);
+    }
+    if (state.count as usize) == cap {
+        return Planned::Refuse(Refusal::Full);
+    }
+    if !is_standing(cap, state) {
+        return Planned::Refuse(Refusal::Corrupt);
+    }
+    Planned::Start(state.count)
+}
+
+// Why a new root over x is refused, or its plan.
+pub fn plan_over(
+    fields: &[u16],
+    numbers: &[u64],
+    levels: &[i32],
+    ancestors: &[u16],
+    scratch: &[u16],
+    state: State,
+    x: u16,
+) -> Planned
+    ensures { λ r. ⌜ r ≡ overPlan (partsOf (now (fields .entry)) (now (numbers .entry)) (now (levels .entry)) (now (ancestors .entry))) (length (now (scratch .entry))) state x ⌝ }
+{
+    let Fit::Capacity(cap) = capacity(fields, numbers, levels, ancestors) else {
+        return Planned::Refuse(Refusal::Misfit);
+    };
+    if scratch.len() != cap {
+        return Planned::Refuse(Refusal::Misfit);
+    }
+    if state.count <= x {
+        return Planned::Refuse(Refusal::UnknownNode);
+    }
+    if !is_standing(cap, state) {
+        return Planned::Refuse(Refusal::Corrupt);
+    }
+    let tree = tree_of(ancestors, state.count, x);
+    let root = root_of(fields, state.count, tree);
+    if root == NONE {
+        return Planned::Refuse(Refusal::Corrupt);
+    }
+    if root != x {
+        return Planned::Refuse(Refusal::NotRoot);
+    }
+    if (state.count as usize) == cap {
+        return Planned::Refuse(Refusal::Full);
+    }
+    plan_above(fields, numbers, levels, ancestors, state, tree, x)
+}
+
+// Why a new root over that of the first tree, that of row 0, is refused, or its plan.
 pub fn plan_root(
     fields: &[u16],
     numbers: &[u64],
@@ -67,19 +135,12 @@ pub fn plan_root(
         return Planned::Refuse(Refusal::Corrupt);
     }
     if state.count == 0 {
-        return Planned::Grow(first_root());
+        return Planned::Start(0);
     }
-    let Level::At(at) = root_level(level(levels, state.root)) else {
+    let tree = tree_of(ancestors, state.count, 0);
+    let root = root_of(fields, state.count, tree);
+    if root == NONE {
         return Planned::Refuse(Refusal::Corrupt);
-    };
-    plan_row(
-        fields,
-        numbers,
-        levels,
-        state.count,
-        state.root,
-        at,
-        0,
-        state.count,
-    )
+    }
+    plan_above(fields, numbers, levels, ancestors, state, tree, root)
 }

@@ -2,223 +2,171 @@
 -- growth that 01 asks for (01, "On a table that passes inspection no call gives 4").
 use mathlib.Core.Path.{_≡_, refl, ap, sym, _∙_}
 use mathlib.Core.Bool.{true}
-use mathlib.Core.Logic.{inl, inr, _≢_}
+use mathlib.Core.Logic.{_≢_}
 use Prim.Native.Nat.{ℕ, suc, _+_, _*_, _≤_, _<_}
-use native.Mathlib.Decide.{ℕ-discrete}
 use native.Mathlib.Omega.{arith}
-use borrow.Author.Tests.{le-leb, ne-eqb}
-use lib.Dec.{eqb, leb}
-use lib.IntN.{pos, _-ℤ_}
-use Rattle.laws.specs.Test.{says-true, pick}
-use Rattle.tree_laws.specs.Ancestor.{none, here}
-use Rattle.tree_laws.specs.AncestorLaws.{cases}
+use borrow.Author.Tests.{le-leb}
+use Rattle.laws.specs.Test.{says-true}
+use Rattle.tree_laws.specs.Ancestor.{none}
 use Rattle.rows.specs.declared.capacity.Fit.the-variants.{Capacity}
 use Rattle.rows.specs.declared.state.State.{State}
-use Rattle.rows.specs.Row.{Parts, levelAt}
+use Rattle.rows.specs.Row.{Parts}
 use Rattle.rows.specs.Capacity.{Fits, capacityOf}
 use Rattle.rows.specs.CapacityLaws.{capacity-fits}
-use Rattle.rows.specs.Table.{Table, tableOf, upper}
+use Rattle.rows.specs.Table.{Table, tableOf}
+use Rattle.rows.specs.Tree.{rootAt}
 use Rattle.rows.specs.State.{isStanding}
 use Rattle.rows.specs.StateLaws.{says-standing}
 use Rattle.rows.specs.StoredTree.{labelLimit}
-use Rattle.rows.specs.Rules.{Rules}
-use Rattle.growth_laws.specs.Growth.{Growth, leaf, root, Named, named-leaf, named-root, parentOf, labelOf, levelOf, rootOf}
-use Rattle.growth_laws.specs.Inserted.{Inserted}
-use Rattle.growth_laws.specs.Head.{Head}
+use Rattle.rows.specs.PlainTree.{first, root as rootIn}
+use Rattle.rows.specs.Rules.{Rules, numbered}
+use Rattle.numbering.specs.Numbered.{InTree, in-tree, first-is}
+use Rattle.numbering.specs.Lines.{root-in}
+use Rattle.numbering.specs.TreeTests.{tree-is, root-is}
+use Rattle.growth_laws.specs.Growth.{Growth, leaf, root, Named, named-leaf, named-root, parentOf, labelOf, treeOf}
+use Rattle.growth_laws.specs.Extend.{withLone}
 use Rattle.growth_laws.specs.Grown.{Grown}
+use Rattle.growth_laws.specs.GrownLaws.{growth-pays}
 use Rattle.growth_laws.specs.Frame.{Frame, HeadRows}
-use Rattle.growth_laws.specs.FrameLaws.{growth-frame, growth-head}
-use Rattle.growth_laws.specs.GrowthPays.{growth-pays}
-use Rattle.growth_laws.specs.GrowthPlain.{growth-plain}
-use Rattle.growth_laws.specs.Lag.{lag, worth, perRow}
+use Rattle.growth_laws.specs.FrameLaws.{join-frame, join-head}
+use Rattle.growth_laws.specs.GrowthKeepsRules.{growth-plain}
+use Rattle.growth_laws.specs.Lag.{lag, worth, perJoin}
 use Rattle.growth_laws.specs.PlainStep.{PlainStep}
 use Rattle.growth_laws.specs.Renumbered.{rows}
 use Rattle.growth.specs.declared.Grown.the-variants.{Node}
-use Rattle.growth.specs.declared.plan.Plan.{Plan}
 use Rattle.growth.specs.declared.plan.Planned.{Planned}
 use Rattle.growth.specs.declared.plan.Planned.the-variants.{Grow}
-use Rattle.growth.specs.Level.{levelOf as levelWithin}
-use Rattle.growth.specs.Plan.{leafPlan, rootPlan, firstRoot}
-use Rattle.growth.specs.PlanLaws.{leaf-row, root-row, root-first}
-use Rattle.growth.specs.Store.{storedBy}
-use Rattle.growth.specs.Growth.{Outcome, served, grownBy, addLeaf, addRoot}
+use Rattle.growth.specs.Plan.{leafPlan, overPlan, rootPlan, rootOver}
+use Rattle.growth.specs.PlanLaws.{leaf-row, above-row, over-row, root-row}
+use Rattle.growth.specs.Store.{Stored}
+use Rattle.growth.specs.Growth.{Outcome, outcome, nodeAt, served, grownBy, addLeaf, addOver, addRoot}
 use Rattle.growth_exact.specs.SizeWalkExact.{more-one}
-use Rattle.growth_exact.specs.InsertExact.{LeafOf, between, inserted}
-use Rattle.growth_exact.specs.RenumberExact.{headAt}
-use Rattle.growth_exact.specs.HeadExact.{head-rows}
-use Rattle.growth_exact.specs.StoreExact.{after, tableAfter, after-fits, after-grown, after-rules, after-given}
-use Rattle.growth_exact.specs.PlanExact.{u, leaf-of, h, head-is, plan, row-planned, level-planned}
+use Rattle.growth_exact.specs.PlanExact.{plan, level-planned, joinedParts, site-stored, site-fits, site-step}
+use Rattle.growth_exact.specs.GrowthSite.{site, grows, headRow, tableGrown as tableJoined, grown, grown-rules}
 
--- the table that stands after a growth g of p
-abbrev pub tableGrown : Parts → State → Growth → Outcome → Table
-tableGrown p s g o = tableOf (o .parts) (suc (s .count)) (rootOf (tableOf p (s .count) (s .root)) g)
+-- the table that stands after a growth
+abbrev pub tableGrown : State → Outcome → Table
+tableGrown s o = tableOf (o .parts) (suc (s .count))
 
 -- growth g of the parts p, of capacity c, came out as o: served, and as 01 has it
 pub record GrownExactly (c : ℕ) (p : Parts) (s : State) (g : Growth) (o : Outcome) : Type 0 where
   -- the head that was renumbered
   pub head : ℕ
   -- the new number is the old count; the rows answered are those at or below the head in the stored tree
-  pub answered : o .grown ≡ Node (record {
-    state = record { count = suc (s .count); root = rootOf (tableOf p (s .count) (s .root)) g };
-    node = s .count;
-    rows = rows (tableGrown p s g o) head;
-  })
+  pub answered : o .grown ≡ Node (record { state = record { count = suc (s .count) }; node = s .count; rows = rows (tableGrown s o) head })
   -- the parts keep their lengths
   pub fits : Fits c (o .parts)
   -- row, head and renumbering as 01 has them
-  pub grown : Grown (tableOf p (s .count) (s .root)) (tableGrown p s g o) g head
+  pub grown : Grown (tableOf p (s .count)) (tableGrown s o) g head
   -- the table passes inspection again
-  pub rules : Rules c (tableGrown p s g o)
-  -- the plain tree is one step of the plain list on
-  pub plain : PlainStep (tableOf p (s .count) (s .root)) (tableGrown p s g o) g
-  -- what changed, and what did not
-  pub frame : Frame (tableOf p (s .count) (s .root)) (tableGrown p s g o) g head
-  pub headRows : HeadRows (tableOf p (s .count) (s .root)) (tableGrown p s g o) head
+  pub rules : Rules c (tableGrown s o)
+  -- the plain trees are one step of the plain list on
+  pub plain : PlainStep (tableOf p (s .count)) (tableGrown s o) g
+  -- what changed, and what did not, against the table in which the new row stands alone
+  pub frame : Frame (withLone (tableOf p (s .count))) (tableGrown s o) (s .count) (parentOf g) head
+  pub headRows : HeadRows (withLone (tableOf p (s .count))) (tableGrown s o) (s .count) head
   -- the rows renumbered are paid for
-  pub pays : worth * lag (tableGrown p s g o) + rows (tableGrown p s g o) head ≤ worth * lag (tableOf p (s .count) (s .root)) + perRow
+  pub pays : worth * lag (tableGrown s o) + rows (tableGrown s o) head ≤ worth * lag (tableOf p (s .count)) + perJoin
+
+-- What the calls ask of the parts and the count
+
+pub capacity-is : {c : ℕ} (p : Parts) → Fits c p → Capacity c ≡ capacityOf p
+capacity-is p fit = rw (fit .levels) at (capacity-fits p (rw (fit .levels) fit))
+
+pub standing-is : {c : ℕ} (p : Parts) (s : State) → Rules c (tableOf p (s .count)) → isStanding c s ≡ true
+standing-is {c} p s r = says-true (says-standing c s) (r .one .count)
+
+pub count-more : (n : ℕ) {c : ℕ} (p : Parts) → Fits c p → n < c → (k : ℕ) → nodeAt n k ≡ Node (record { state = record { count = suc n }; node = n; rows = k })
+count-more n p fit room k =
+    let more : n + 1 ≡ suc n = omega arith in
+    ap (λ (m : ℕ). Node (record { state = record { count = m }; node = n; rows = k })) (more-one n (omega (arith, fit .most)) ∙ more)
+
+-- the root of a tree, as the code reads it, is a row in use
+pub rooted : {c : ℕ} (p : Parts) (s : State) → Fits c p → Rules c (tableOf p (s .count)) → (x : ℕ) → x < s .count
+    → rootAt (p .fields) (p .ancestors) (s .count) x ≢ none
+rooted p s fit r x l e =
+    omega (arith, fit .most, r .one .count, root-in r (fit .most) (in-tree (numbered r (fit .most)) x l) .inUse, sym (root-is p (s .count) r (fit .most) x l) ∙ e)
 
 -- From the plan to the outcome
 
-node-same : (n z : ℕ) {a b x y : ℕ} → x ≡ y → a ≡ b → Node (record { state = record { count = a; root = z }; node = n; rows = x })
-    ≡ Node (record { state = record { count = b; root = z }; node = n; rows = y })
-node-same n z e o = rw (e, o) refl
-
-capacity-is : {c : ℕ} (p : Parts) → Fits c p → Capacity c ≡ capacityOf p
-capacity-is p fit = rw (fit .levels) at (capacity-fits p (rw (fit .levels) fit))
-
-standing-is : {c : ℕ} (p : Parts) (s : State) → Rules c (tableOf p (s .count) (s .root)) → isStanding c s ≡ true
-standing-is {c} p s r = says-true (says-standing c s) record { count = r .one .count; noRoot = r .one .noRoot; root = r .one .root }
-
-module _ {c : ℕ} (p : Parts) (s : State) (fit : Fits c p) (r : Rules c (tableOf p (s .count) (s .root))) (room : s .count < c) (g : Growth)
-    (named : Named (tableOf p (s .count) (s .root)) g) (w u deep : ℕ) (k : LeafOf (tableOf p (s .count) (s .root)) g w u deep) (h : ℕ)
-    (head : Head (between p (s .count) (s .root) fit r room g named w u deep k) (s .count) h) where
+module _ {c : ℕ} (p : Parts) (s : State) (fit : Fits c p) (r : Rules c (tableOf p (s .count))) (room : s .count < c) (g : Growth)
+    (named : Named (tableOf p (s .count)) g) where
   abbrev t : Table
-  t = tableOf p (s .count) (s .root)
+  t = tableOf p (s .count)
 
-  abbrev m : Table
-  m = between p (s .count) (s .root) fit r room g named w u deep k
+  abbrev d : Table
+  d = tableJoined p (s .count) fit r room g named
 
-  -- the plan of this growth
-  abbrev planned : Plan
-  planned = record {
-    leaf = record { row = s .count; parent = parentOf t g; prev = w };
-    upper = u;
-    depth = deep;
-    level = levelOf t g;
-    label = labelOf g;
-    head = headAt m h;
-    root = rootOf t g;
-  }
+  abbrev h : ℕ
+  h = headRow p (s .count) fit r room g named
 
-  pub served-exactly : GrownExactly c p s g (grownBy p (Grow planned))
-  unfolding grownBy served storedBy
-  served-exactly = record {
-    head = h;
-    answered = node-same (s .count) (rootOf t g) (after-given p (s .count) (s .root) fit r room g named w u deep k h head)
-        (more-one (s .count) (omega (arith, fit .most)) ∙ more);
-    fits = after-fits p (s .count) (s .root) fit r room g named w u deep k h head;
-    grown = done;
-    rules = after-rules p (s .count) (s .root) fit r room g named w u deep k h head;
-    plain = growth-plain r (fit .most) room done;
-    frame = growth-frame r (fit .most) room done;
-    headRows = growth-head r (fit .most) room done;
-    pays = growth-pays r (fit .most) room done;
-  }
-    where
-      more : s .count + 1 ≡ suc (s .count)
-      more = omega arith
+  abbrev left : Outcome
+  left = outcome (joinedParts (site p (s .count) fit r room g named) (labelOf g) (treeOf t g)) (nodeAt (s .count) (rows d h))
 
-      done : Grown t (tableAfter p (s .count) (s .root) fit r room g named w u deep k h head) g h
-      done = after-grown p (s .count) (s .root) fit r room g named w u deep k h head
+  outcome-is : grownBy p (Grow (plan (site p (s .count) fit r room g named) (labelOf g) (treeOf t g))) ≡ left
+  unfolding grownBy served
+  outcome-is = ap (λ (x : Stored). outcome (x .parts) (nodeAt (s .count) (x .given))) (site-stored (site p (s .count) fit r room g named) (labelOf g) (treeOf t g))
 
--- Under a parent
+  left-exactly : GrownExactly c p s g left
+  left-exactly =
+      let k = grown p (s .count) fit r room g named in
+      let i = site p (s .count) fit r room g named in
+      record {
+        head = h;
+        answered = count-more (s .count) p fit room (rows d h);
+        fits = site-fits i (labelOf g) (treeOf t g);
+        grown = k;
+        rules = grown-rules p (s .count) fit r room g named;
+        plain = growth-plain r (fit .most) room k;
+        frame = join-frame (i .was) (site-step i (labelOf g) (treeOf t g));
+        headRows = join-head (i .was) (site-step i (labelOf g) (treeOf t g));
+        pays = growth-pays (numbered r (fit .most)) k;
+      }
 
-module _ {c : ℕ} (p : Parts) (s : State) (fit : Fits c p) (r : Rules c (tableOf p (s .count) (s .root))) (room : s .count < c) (g : Growth)
-    (named : Named (tableOf p (s .count) (s .root)) g) (some : parentOf (tableOf p (s .count) (s .root)) g ≢ none) where
-  row-exactly : (q : Planned) → q ≡ Grow (plan p (s .count) (s .root) fit r room g named some) → GrownExactly c p s g (grownBy p q)
-  row-exactly q e = rw e (served-exactly p s fit r room g named _ _ _ (leaf-of p (s .count) (s .root) fit r room g named some)
-      (h p (s .count) (s .root) fit r room g named some) (head-is p (s .count) (s .root) fit r room g named some))
+  row-exactly : (q : Planned) → q ≡ Grow (plan (site p (s .count) fit r room g named) (labelOf g) (treeOf t g)) → GrownExactly c p s g (grownBy p q)
+  row-exactly q e = rw (e, outcome-is) left-exactly
 
--- The two calls
+-- The three calls
 
-module _ {c : ℕ} (p : Parts) (s : State) (fit : Fits c p) (r : Rules c (tableOf p (s .count) (s .root))) (scratch : ℕ) (same : scratch ≡ c)
+module _ {c : ℕ} (p : Parts) (s : State) (fit : Fits c p) (r : Rules c (tableOf p (s .count))) (scratch : ℕ) (same : scratch ≡ c)
     (room : s .count < c) where
   -- a leaf
   pub leaf-exact : (v label : ℕ) → v < s .count → 1 ≤ label → label ≤ labelLimit → GrownExactly c p s (leaf v label) (addLeaf p scratch s v label)
   unfolding addLeaf
   leaf-exact v label l i j =
-      let g : Named (tableOf p (s .count) (s .root)) (leaf v label) = named-leaf l i j in
-      let d : v ≢ none = λ e. omega (arith, fit .most) in
-      row-exactly p s fit r room (leaf v label) g d (leafPlan p scratch s v label)
+      let g : Named (tableOf p (s .count)) (leaf v label) = named-leaf l i j in
+      row-exactly p s fit r room (leaf v label) g (leafPlan p scratch s v label)
       (sym (leaf-row p scratch s v label c (capacity-is p fit) same l (rw (le-leb 1 label i, le-leb label labelLimit j) refl) (λ e. omega arith)
-      (standing-is p s r) _ (sym (level-planned p (s .count) (s .root) fit r room (leaf v label) g d)))
-      ∙ row-planned p (s .count) (s .root) fit r room (leaf v label) g d)
+      (standing-is p s r) (rooted p s fit r v l) _ (sym (level-planned (site p (s .count) fit r room (leaf v label) g) label none)))
+      ∙ grows p (s .count) fit r room (leaf v label) g)
 
-  -- a new root over an old one
-  root-over : s .count ≢ 0 → GrownExactly c p s root (addRoot p scratch s)
+  -- a new root over the root x
+  module _ (x : ℕ) (l : x < s .count) (own : rootIn (tableOf p (s .count)) x ≡ x) where
+    above : rootOver p s (first (tableOf p (s .count)) x) x
+        ≡ Grow (plan (site p (s .count) fit r room (root x) (named-root l own)) 0 (treeOf (tableOf p (s .count)) (root x)))
+    above =
+        let g : Named (tableOf p (s .count)) (root x) = named-root l own in
+        let f : ℕ = treeOf (tableOf p (s .count)) (root x) in
+        sym (above-row p s f x _ (sym (level-planned (site p (s .count) fit r room (root x) g) 0 f))) ∙ grows p (s .count) fit r room (root x) g
+
+    pub over-exact : GrownExactly c p s (root x) (addOver p scratch s x)
+    unfolding addOver
+    over-exact =
+        let e : rootAt (p .fields) (p .ancestors) (s .count) x ≡ x = root-is p (s .count) r (fit .most) x l ∙ own in
+        row-exactly p s fit r room (root x) (named-root l own) (overPlan p scratch s x)
+        (sym (over-row p scratch s x c (capacity-is p fit) same l (standing-is p s r) (rooted p s fit r x l) e (λ e. omega arith))
+        ∙ ap (λ (f : ℕ). rootOver p s f x) (tree-is p (s .count) r (fit .most) (in-tree (numbered r (fit .most)) x l)) ∙ above)
+
+  -- a new root over that of the first tree, where there is one
+  pub root-exact : 0 < s .count → GrownExactly c p s (root (rootIn (tableOf p (s .count)) 0)) (addRoot p scratch s)
   unfolding addRoot
-  root-over z =
-      let t : Table = tableOf p (s .count) (s .root) in
-      let d : s .root ≢ none = λ e. omega (arith, fit .most, r .one .root (omega arith)) in
-      let y : levelOf t root ≡ levelAt (p .levels) (s .root) -ℤ pos 1 = rw (ne-eqb (s .root) none d) refl in
-      row-exactly p s fit r room root named-root d (rootPlan p scratch s)
-      (sym (root-row p scratch s c (capacity-is p fit) same (λ e. omega arith) (standing-is p s r) z (levelOf t root)
-      (sym (level-planned p (s .count) (s .root) fit r room root named-root d) ∙ ap levelWithin y))
-      ∙ row-planned p (s .count) (s .root) fit r room root named-root d)
-
-  -- the first root of all
-  module _ (z : s .count ≡ 0) where
-    no-root : s .root ≡ none
-    no-root = r .one .noRoot z
-
-    first-leaf : LeafOf (tableOf p (s .count) (s .root)) root none none 0
-    first-leaf = record {
-      sibling = λ d. absurd (d no-root);
-      alone = λ e. refl;
-      upperRoot = λ e. refl;
-      upperApex = λ d. absurd (d no-root);
-      upperAlong = λ d. absurd (d no-root);
-      below = λ d. absurd (d no-root);
-      first = λ e. refl;
-    }
-
-    abbrev first : Table
-    first = between p (s .count) (s .root) fit r room root named-root none none 0 first-leaf
-
-    in-first : Inserted (tableOf p (s .count) (s .root)) first root
-    in-first = inserted p (s .count) (s .root) fit r room root named-root none none 0 first-leaf
-
-    no-upper : upper first (s .count) ≡ none
-    no-upper = in-first .upperNew .root (in-first .planted .new .parentIs ∙ no-root)
-
-    first-head : Head first (s .count) (s .count)
-    first-head = record {
-      over = here;
-      due = omega (arith, in-first .sizeNew, in-first .setSizeNew);
-      calm = λ a q d. elim (cases q) [ inl e ↦ absurd (d e) | inr y ↦ absurd (y .0 no-upper) ];
-    }
-
-    first-rows : rows first (s .count) ≡ 1
-    first-rows = head-rows r (fit .most) room named-root in-first first-head ∙ in-first .sizeNew
-
-    first-plan : (n z a b : ℕ) → n ≡ 0 → z ≡ none → a ≡ none → b ≡ 1 → _≡_ {A = Plan} (record {
-      leaf = record { row = n; parent = z; prev = none };
-      upper = none;
-      depth = 0;
-      level = pick (eqb z none) (pos 0) (levelAt (p .levels) z -ℤ pos 1);
-      label = 0;
-      head = record { row = n; upper = a; rows = b };
-      root = n;
-    }) firstRoot
-    first-plan n z a b e₁ e₂ e₃ e₄ = rw (e₁, e₂, e₃, e₄) refl
-
-    root-first-exact : GrownExactly c p s root (addRoot p scratch s)
-    unfolding addRoot
-    root-first-exact =
-        let e = first-plan (s .count) (s .root) (upper first (s .count)) (rows first (s .count)) z no-root no-upper first-rows in
-        rw (sym (root-first p scratch s c (capacity-is p fit) same (λ e. omega arith) (standing-is p s r) z), ← e)
-        (served-exactly p s fit r room root named-root none none 0 first-leaf (s .count) first-head)
-
-  -- a new root
-  pub root-exact : GrownExactly c p s root (addRoot p scratch s)
-  root-exact = elim (ℕ-discrete (s .count) 0) [ yes z ↦ root-first-exact z | no d ↦ root-over d ]
+  root-exact z =
+      let t : Table = tableOf p (s .count) in
+      let i : InTree t (first t 0) 0 = in-tree (numbered r (fit .most)) 0 z in
+      let j : InTree t (first t 0) (rootIn t 0) = root-in r (fit .most) i in
+      let e : first t (rootIn t 0) ≡ first t 0 = first-is (numbered r (fit .most)) j in
+      row-exactly p s fit r room (root (rootIn t 0)) (named-root (j .inUse) (ap (t .root) e)) (rootPlan p scratch s)
+      (sym (root-row p scratch s c (capacity-is p fit) same (λ e. omega arith) (standing-is p s r) (λ e. omega arith) (rooted p s fit r 0 z))
+      ∙ ap (λ (f : ℕ). rootOver p s f (rootAt (p .fields) (p .ancestors) (s .count) 0)) (tree-is p (s .count) r (fit .most) i ∙ sym e)
+      ∙ ap (λ (x : ℕ). rootOver p s (first t (rootIn t 0)) x) (root-is p (s .count) r (fit .most) 0 z)
+      ∙ above (rootIn t 0) (j .inUse) (ap (t .root) e))

@@ -1,31 +1,32 @@
--- On a table that passes inspection a new row is planned: no refusal, and the plan's head is the head of its chain.
+-- At a site a row is planned: no refusal, and the plan's head is the head of its chain.
 use mathlib.Core.Path.{_≡_, refl, ap, sym, _∙_}
-use mathlib.Core.Bool.{Bool, true, false, _||_, _&&_, not}
-use mathlib.Core.Logic.{_≢_}
+use mathlib.Core.Bool.{Bool, true, false, _||_, not}
+use mathlib.Core.Logic.{_⊎_, _≢_}
 use mathlib.Core.List.{List}
-use Prim.Native.Nat.{ℕ, suc, _≤_, _<_}
+use Prim.Native.Nat.{ℕ, _<_}
 use native.Mathlib.Decide.{ℕ-discrete}
 use native.Mathlib.Omega.{arith}
 use borrow.Author.Tests.{ne-eqb, eq-eqb, le-leb}
 use lib.Dec.{eqb}
-use lib.IntN.{natAbs}
+use lib.IntN.{ℤ, natAbs}
 use Rattle.laws.specs.Test.{pick}
 use Rattle.tree_laws.specs.Ancestor.{none}
+use Rattle.tree_laws.specs.Join.{Old}
+use Rattle.tree_laws.specs.JoinLaws.{old-up}
 use Rattle.tree_laws.specs.SizeDepth.{depth-below}
 use Rattle.span.specs.Constants.{limit}
-use Rattle.span.specs.Numbers.{endOf, withinLimit}
-use Rattle.rows.specs.Layout.{parentPlace, lastPlace, pathPlace, depthPlace, nextFreePlace}
+use Rattle.span.specs.Numbers.{endOf}
+use Rattle.rows.specs.declared.row.Row.{Row}
+use Rattle.rows.specs.Layout.{parentPlace, lastPlace, depthPlace, nextFreePlace, rootPlace}
 use Rattle.rows.specs.Row.{Parts, fieldAt, numberAt}
-use Rattle.rows.specs.Capacity.{Fits}
-use Rattle.rows.specs.Table.{Table, tableOf, parent, depth, upper}
+use Rattle.rows.specs.Table.{Table, tableOf, parent, depth, upper, path}
 use Rattle.rows.specs.Sound.{levelLimit}
-use Rattle.rows.specs.Rules.{Rules}
-use Rattle.growth_laws.specs.Growth.{Growth, Named, parentOf, labelOf, levelOf, rootOf}
+use Rattle.rows.specs.Capacity.{Fits}
+use Rattle.growth_laws.specs.Joined.{Joined}
+use Rattle.growth_laws.specs.JoinStep.{JoinStep}
 use Rattle.growth_laws.specs.Head.{Head}
-use Rattle.growth_laws.specs.PlantedLaws.{parent-in}
 use Rattle.growth_laws.specs.Renumbered.{rows}
-use Rattle.growth_laws.specs.Trees.{recorded-depth}
-use Rattle.renumbering.specs.Column.{put}
+use Rattle.growth_laws.specs.Trees.{OwnTrees, own-trees, stored, shape-of}
 use Rattle.growth.specs.declared.attach.Leaf.{Leaf}
 use Rattle.growth.specs.declared.level.Level.the-variants.{At}
 use Rattle.growth.specs.declared.plan.Plan.{Plan}
@@ -35,74 +36,59 @@ use Rattle.growth.specs.CheckWalk.{isReadable}
 use Rattle.renumber.specs.Count.{oneMore}
 use Rattle.growth.specs.Good.{isGood}
 use Rattle.growth.specs.Level.{levelOf as levelWithin}
-use Rattle.growth.specs.Plan.{upperUnder, upperFor, leafUnder, headOf, isSeated, isWhole, plannedRow}
+use Rattle.growth.specs.Plan.{upperUnder, upperFor, leafUnder, headOf, isFirst, isSeated, isWhole, plannedRow}
 use Rattle.growth.specs.PlanLaws.{whole, on-top}
+use Rattle.growth.specs.Store.{stored as storedAs, storedBy}
 use Rattle.growth_exact.specs.SizeWalkExact.{more-one}
-use Rattle.growth_exact.specs.AttachExact.{Quiet, Attached}
-use Rattle.growth_exact.specs.InsertExact.{LeafOf, parts, between, attached-is, inserted}
+use Rattle.renumbering.specs.Column.{put}
 use Rattle.growth_exact.specs.RenumberExact.{headAt}
-use Rattle.growth_exact.specs.HeadExact.{good-row, headTop, head, is-head, top-found, head-planned, head-renumberable}
 use Rattle.growth_exact.specs.CheckWalkExact.{Standing, check-passes}
-use Rattle.growth_exact.specs.StoreExact.{level-within, head-seated, head-within}
+use Rattle.growth_exact.specs.Site.{Site, LeafOf}
+use Rattle.growth_exact.specs.JoinExact.{between, first-is, next-is, joined}
+use Rattle.growth_exact.specs.HeadExact.{headTop, head, is-head, top-found, head-planned, head-renumberable}
+use Rattle.growth_exact.specs.StoreExact.{head-seated, head-within, partsAfter, tableAfter, after-fits, after-step, after-given, root-rest}
 
 or-true : (a b : Bool) → b ≡ true → (a || b) ≡ true
 or-true true b e = refl
 or-true false b e = e
 
--- the head's two tests
-seat : (h u a k : ℕ) → (h ≢ 0 → u ≢ none) → endOf a k ≤ limit → ((eqb h 0 || not (eqb u none)) && withinLimit a k) ≡ true
-seat h u a k d l = elim (ℕ-discrete h 0) [
-  | yes e ↦ rw (eq-eqb h 0 e, le-leb (endOf a k) limit l) refl
-  | no o ↦ rw (ne-eqb h 0 o, ne-eqb u none (d o), le-leb (endOf a k) limit l) refl
-]
+module _ {c k : ℕ} {p : Parts} {t : Table} {z v : ℕ} {l : ℤ} (s : Site c p k t z v l) (f tree : ℕ) where
+  abbrev n : ℕ
+  n = t .count
 
-module _ {c : ℕ} (p : Parts) (n root : ℕ) (fit : Fits c p) (r : Rules c (tableOf p n root)) (room : n < c) (g : Growth) (named : Named (tableOf p n root) g)
-    (some : parentOf (tableOf p n root) g ≢ none) where
-  abbrev t : Table
-  t = tableOf p n root
+  trees : OwnTrees t
+  trees = own-trees (s .was)
 
-  abbrev v : ℕ
-  v = parentOf t g
-
-  v-in : v < n
-  v-in = parent-in (r .one) named some
+  column : (g : Row → ℕ) (y : ℕ) → Old n z y → g (tableOf p n .row y) ≡ g (t .row y)
+  column g y o = ap g (s .row y o)
 
   -- The leaf
 
-  -- the parent of a row other than 0 is in use
-  above-in : v ≢ 0 → parent t v < n
-  above-in d = omega (arith, r .one .smaller v v-in (omega arith), v-in)
-
-  good : (y : ℕ) → y < n → isGood (p .fields) (p .numbers) (p .levels) n y ≡ true
-  good = good-row p n root (fit .most) r
-
   abbrev pub u : ℕ
-  u = upperFor (p .fields) (p .numbers) (p .levels) n v
+  u = upperFor (p .fields) (p .numbers) (p .levels) k v
 
-  upper-first : v ≡ 0 → u ≡ v
+  parent-is : fieldAt (p .fields) v parentPlace ≡ parent t v
+  parent-is = column (λ (r : Row). r .parent) v (s .over)
+
+  upper-first : parent t v ≡ none → u ≡ v
   unfolding upperFor
-  upper-first e = rw (eq-eqb v 0 e) (sym e)
+  upper-first e = rw (eq-eqb (fieldAt (p .fields) v parentPlace) none (parent-is ∙ e)) refl
 
-  upper-below : v ≢ 0 → u ≡ pick (eqb (fieldAt (p .fields) (parent t v) pathPlace) v) (upper t v) v
+  upper-below : parent t v ≢ none → u ≡ pick (eqb (path t (parent t v)) v) (upper t v) v
   unfolding upperFor upperUnder
-  upper-below d = rw (ne-eqb v 0 d, good (parent t v) (above-in d)) refl
+  upper-below d =
+      let o : Old n z (parent t v) = old-up (stored trees) (s .alone) v (s .over) d in
+      rw (parent-is, ne-eqb (parent t v) none d, s .good (parent t v) o, column (λ (r : Row). r .path) (parent t v) o, column (λ (r : Row). r .upper) v (s .over)) refl
 
-  pub leaf-of : LeafOf t g (fieldAt (p .fields) v lastPlace) u (oneMore (fieldAt (p .fields) v depthPlace))
+  pub leaf-of : LeafOf t v (fieldAt (p .fields) v lastPlace) u (oneMore (fieldAt (p .fields) v depthPlace))
   leaf-of = record {
-    sibling = λ d. refl;
-    alone = λ e. absurd (some e);
-    upperRoot = λ e. absurd (some e);
-    upperApex = λ d a. elim (ℕ-discrete v 0) [
+    sibling = column (λ (r : Row). r .last) v (s .over);
+    upperApex = λ a. elim (ℕ-discrete (parent t v) none) [
       | yes e ↦ upper-first e
-      | no o ↦ upper-below o ∙ ap (λ (b : Bool). pick b (upper t v) v)
-          (ne-eqb (fieldAt (p .fields) (parent t v) pathPlace) v (a (λ z. omega (arith, above-in o, fit .most))))
+      | no d ↦ upper-below d ∙ ap (λ (b : Bool). pick b (upper t v) v) (ne-eqb (path t (parent t v)) v (a d))
     ];
-    upperAlong = λ d a. elim (ℕ-discrete v 0) [
-      | yes e ↦ absurd (a .some (ap (parent t) e ∙ r .one .first (omega (arith, v-in))))
-      | no o ↦ upper-below o ∙ ap (λ (b : Bool). pick b (upper t v) v) (eq-eqb (fieldAt (p .fields) (parent t v) pathPlace) v (a .link))
-    ];
-    below = λ d. more-one (fieldAt (p .fields) v depthPlace) (omega (arith, depth-below (recorded-depth (r .one) (fit .most)) v v-in, fit .most));
-    first = λ e. absurd (some e);
+    upperAlong = λ a. upper-below (a .some) ∙ ap (λ (b : Bool). pick b (upper t v) v) (eq-eqb (path t (parent t v)) v (a .link));
+    below = rw (column (λ (r : Row). r .depth) v (s .over)) (more-one (depth t v) (omega (arith, depth-below (shape-of (s .was)) v (s .over .inside), s .was .count)));
   }
 
   -- The table with it
@@ -114,81 +100,115 @@ module _ {c : ℕ} (p : Parts) (n root : ℕ) (fit : Fits c p) (r : Rules c (tab
   deep = oneMore (fieldAt (p .fields) v depthPlace)
 
   abbrev m : Table
-  m = between p n root fit r room g named w u deep leaf-of
+  m = between s f tree w u deep leaf-of
 
   abbrev pub h : ℕ
-  h = head p n root fit r room g named w u deep leaf-of some
+  h = head s f tree w u deep leaf-of
 
   abbrev top : ℕ
-  top = headTop p n root fit r room g named w u deep leaf-of some
+  top = headTop s f tree w u deep leaf-of
 
-  pub head-is : Head m n h
-  head-is = is-head p n root fit r room g named w u deep leaf-of some
+  in-m : Joined t m z v f l
+  in-m = joined s f tree w u deep leaf-of
 
-  attached-m : Attached (upper t) c (p .fields) n v w u deep (labelOf g) (parts p n root fit r room g named w u deep leaf-of .fields)
-  attached-m = attached-is p n root fit r room g named w u deep leaf-of
+  pub head-is : Head m z h
+  head-is = is-head s f tree w u deep leaf-of
 
   -- The links as they will stand
 
-  stands : Standing m (p .fields) (leafUnder (p .fields) n v)
+  in-part : (y : ℕ) → y < n → y < c
+  in-part y i = omega (arith, s .room)
+
+  stands : Standing m (p .fields) (leafUnder (p .fields) z v)
   unfolding firstAfter firstOf nextAfter parentAfter put
   stands = record {
-    first = λ y l. elim (ℕ-discrete y n) [
-      | yes e ↦ rw (e, eq-eqb n n refl) (sym (attached-m .firstNew))
-      | no d ↦ rw (ne-eqb y n d) (sym (attached-m .first y (omega arith)))
+    first = λ y i. elim (ℕ-discrete y z) [
+      | yes e ↦ rw (e, eq-eqb z z refl) (sym (in-m .planted .new .firstNone))
+      | no d ↦ rw (ne-eqb y z d) (sym (first-is s f tree w u deep leaf-of y (in-part y i) d))
     ];
-    next = λ y l. elim (ℕ-discrete y n) [
-      | yes e ↦ rw (e, eq-eqb n n refl) (sym (attached-m .nextNew))
-      | no d ↦ rw (ne-eqb y n d) (sym (attached-m .next y (omega arith)))
+    next = λ y i. elim (ℕ-discrete y z) [
+      | yes e ↦ rw (e, eq-eqb z z refl) (sym (in-m .planted .new .nextNone))
+      | no d ↦ rw (ne-eqb y z d) (sym (next-is s f tree w u deep leaf-of y (in-part y i) d))
     ];
-    parent = λ y l. elim (ℕ-discrete y n) [
-      | yes e ↦ rw (e, eq-eqb n n refl) (sym (attached-m .parentNew))
-      | no d ↦ rw (ne-eqb y n d) (sym (attached-m .kept y parentPlace (omega arith) quiet))
+    parent = λ y i. elim (ℕ-discrete y z) [
+      | yes e ↦ rw (e, eq-eqb z z refl) (sym (in-m .planted .new .parentIs))
+      | no d ↦
+          let o : Old n z y = record { inside = i; other = d } in
+          rw (ne-eqb y z d) (column (λ (r : Row). r .parent) y o ∙ sym (in-m .planted .old y o .sameParent))
     ];
   }
-    where
-      quiet : Quiet parentPlace
-      quiet = record { within = omega arith; first = λ e. omega arith; last = λ e. omega arith; next = λ e. omega arith; size = λ e. omega arith }
 
-  readable : (y : ℕ) → y < suc n → isReadable (p .fields) (p .numbers) (p .levels) n (leafUnder (p .fields) n v) y ≡ true
+  readable : (y : ℕ) → y < n → isReadable (p .fields) (p .numbers) (p .levels) k (leafUnder (p .fields) z v) y ≡ true
   unfolding isReadable
-  readable y l = elim (ℕ-discrete y n) [
-    | yes e ↦ rw (eq-eqb y n e) refl
-    | no d ↦ or-true (eqb y n) (isGood (p .fields) (p .numbers) (p .levels) n y) (good y (omega arith))
+  readable y i = elim (ℕ-discrete y z) [
+    | yes e ↦ rw (eq-eqb y z e) refl
+    | no d ↦ or-true (eqb y z) (isGood (p .fields) (p .numbers) (p .levels) k y) (s .good y record { inside = i; other = d })
   ]
 
   -- The tests
 
-  seated : isSeated (p .numbers) (headAt m h) ≡ true
-  unfolding isSeated
-  seated = seat h (upper m h) (numberAt (p .numbers) (upper m h) nextFreePlace) (rows m h)
-      (head-seated p n root fit r room g named w u deep leaf-of h head-is) (head-within p n root fit r room g named w u deep leaf-of h head-is)
+  first-or : (isFirst (p .fields) z h || not (eqb (upper m h) none)) ≡ true
+  unfolding isFirst
+  first-or = elim (ℕ-discrete (upper m h) none) [
+    | yes e ↦
+        let g = head-seated s f tree w u deep leaf-of h head-is e in
+        let o : Old n z h = record { inside = head-in; other = g .0 } in
+        rw (ne-eqb h z (g .0), eq-eqb (fieldAt (p .fields) h parentPlace) none (column (λ (r : Row). r .parent) h o ∙ g .1)) refl
+    | no d ↦ or-true (isFirst (p .fields) z h) (not (eqb (upper m h) none)) (rw (ne-eqb (upper m h) none d) refl)
+  ]
+    where
+      head-in : h < n
+      head-in = head-renumberable (s .was) in-m head-is .inUse
 
-  whole-walk : isWhole (p .fields) (p .numbers) (p .levels) n (leafUnder (p .fields) n v) (headAt m h) ≡ true
+  seated : isSeated (p .fields) (p .numbers) z (headAt m h) ≡ true
+  unfolding isSeated
+  seated = rw (first-or, le-leb (endOf (numberAt (p .numbers) (upper m h) nextFreePlace) (rows m h)) limit (head-within s f tree w u deep leaf-of h head-is)) refl
+
+  whole-walk : isWhole (p .fields) (p .numbers) (p .levels) k (leafUnder (p .fields) z v) (headAt m h) ≡ true
   unfolding isWhole
-  whole-walk = or-true (eqb h n) _ (check-passes (head-renumberable r (fit .most) room named (inserted p n root fit r room g named w u deep leaf-of) head-is)
-      (p .fields) (p .numbers) (p .levels) n (leafUnder (p .fields) n v) stands readable)
+  whole-walk = or-true (eqb h z) _ (check-passes (head-renumberable (s .was) in-m head-is)
+      (p .fields) (p .numbers) (p .levels) k (leafUnder (p .fields) z v) stands readable)
 
   -- the plan
   abbrev pub plan : Plan
   plan = record {
-    leaf = leafUnder (p .fields) n v;
+    leaf = leafUnder (p .fields) z v;
     upper = u;
     depth = deep;
-    level = levelOf t g;
-    label = labelOf g;
+    level = l;
+    label = f;
     head = headAt m h;
-    root = rootOf t g;
+    tree = tree;
   }
 
-  pub row-planned : plannedRow (p .fields) (p .numbers) (p .levels) n v (levelOf t g) (labelOf g) (rootOf t g) ≡ Grow plan
+  pub row-planned : plannedRow (p .fields) (p .numbers) (p .levels) k z v l f tree ≡ Grow plan
   row-planned =
-      let f : List ℕ = p .fields in
-      let e : headOf f top n u ≡ headAt m h = head-planned p n root fit r room g named w u deep leaf-of some in
-      sym (on-top f (p .numbers) (p .levels) n v (levelOf t g) (labelOf g) (rootOf t g) top (good v v-in)
-      (sym (top-found p n root fit r room g named w u deep leaf-of some)))
-      ∙ sym (whole f (p .numbers) (p .levels) n v u top deep (levelOf t g) (labelOf g) (rootOf t g) (rw e seated) (rw e whole-walk)) ∙ rw e refl
+      let g : List ℕ = p .fields in
+      let e : headOf g top z u ≡ headAt m h = head-planned s f tree w u deep leaf-of in
+      sym (on-top g (p .numbers) (p .levels) k z v l f tree top (s .good v (s .over)) (sym (top-found s f tree w u deep leaf-of)))
+      ∙ sym (whole g (p .numbers) (p .levels) k z v u top deep l f tree (rw e seated) (rw e whole-walk)) ∙ rw e refl
 
-  pub level-planned : levelWithin (levelOf t g) ≡ At (levelOf t g)
+  pub level-planned : levelWithin l ≡ At l
   unfolding levelWithin
-  level-planned = rw (le-leb (natAbs (levelOf t g)) levelLimit (level-within p n root fit r room g named w u deep leaf-of h head-is)) refl
+  level-planned = rw (le-leb (natAbs l) levelLimit (s .level)) refl
+
+  -- What is stored by it
+
+  abbrev pub joinedParts : Parts
+  joinedParts = partsAfter s f tree w u deep leaf-of h head-is
+
+  abbrev pub joinedTable : Table
+  joinedTable = tableAfter s f tree w u deep leaf-of h head-is
+
+  pub site-stored : storedBy p k plan ≡ storedAs joinedParts (rows joinedTable h)
+  unfolding storedBy
+  site-stored = ap (λ (a : ℕ). storedAs joinedParts a) (after-given s f tree w u deep leaf-of h head-is)
+
+  pub site-fits : Fits c joinedParts
+  site-fits = after-fits s f tree w u deep leaf-of h head-is
+
+  pub site-step : JoinStep t joinedTable z v f l h
+  site-step = after-step s f tree w u deep leaf-of h head-is
+
+  pub site-roots : (tree ≡ none) ⊎ (tree < c) → (y : ℕ) → y < c → y ≢ z → joinedTable .root y ≡ put (λ x. fieldAt (p .fields) x rootPlace) tree z y
+  site-roots = root-rest s f tree w u deep leaf-of h head-is

@@ -18,6 +18,7 @@ use Rattle.rows.specs.Layout.{
   setSizePlace,
   depthPlace,
   labelPlace,
+  rootPlace,
 }
 use Rattle.rows.specs.Row.{Parts, partsOf, fieldAt}
 use Rattle.rows.specs.Capacity.{Fits}
@@ -51,15 +52,16 @@ abbrev pub headAt : Table → ℕ → Head
 headAt m h = record { row = h; upper = upper m h; rows = rows m h }
 
 -- what a renumbering leaves
-pub record RenumberedExactly (c : ℕ) (t : Parts) (n root h : ℕ) (z : Walked) : Type 0 where
+pub record RenumberedExactly (c : ℕ) (t : Parts) (n h : ℕ) (z : Walked) : Type 0 where
   pub fits : Fits c (writtenTo t (z .parts))
-  pub renumbered : Renumbered (tableOf t n root) (tableOf (writtenTo t (z .parts)) n root) h
-  pub given : z .given ≡ rows (tableOf t n root) h
+  pub renumbered : Renumbered (tableOf t n) (tableOf (writtenTo t (z .parts)) n) h
+  pub given : z .given ≡ rows (tableOf t n) h
+  pub roots : (y : ℕ) → fieldAt (z .parts .fields) y rootPlace ≡ fieldAt (t .fields) y rootPlace
 
-module _ {c : ℕ} (t : Parts) (n root h : ℕ) (fit : Fits c t) (room : n ≤ c) (g : Renumberable (tableOf t n root) h)
-    (safe : (d : Table) → Renumbered (tableOf t n root) d h → (x : ℕ) → x < n → end d x ≤ limit) where
+module _ {c : ℕ} (t : Parts) (n h : ℕ) (fit : Fits c t) (room : n ≤ c) (g : Renumberable (tableOf t n) h)
+    (safe : (d : Table) → Renumbered (tableOf t n) d h → (x : ℕ) → x < n → end d x ≤ limit) where
   abbrev m : Table
-  m = tableOf t n root
+  m = tableOf t n
 
   links : LinksIn (linksOf m) (t .fields)
   links = record { parents = λ y. refl; firsts = λ y. refl; nexts = λ y. refl }
@@ -119,7 +121,7 @@ module _ {c : ℕ} (t : Parts) (n root h : ℕ) (fit : Fits c t) (room : n ≤ c
       → fieldAt (after .parts .fields) y k ≡ fieldAt (t .fields) y k
   stays y k a d₁ d₂ d₃ d₄ = numbers .rest y k a d₁ d₂ d₃ ∙ kept y k a d₂ d₄
 
-  same-row : (x : ℕ) → x < n → SameRow (withColumns m (s .path) (lastNumbers g sized)) (tableOf (writtenTo t (after .parts)) n root) x
+  same-row : (x : ℕ) → x < n → SameRow (withColumns m (s .path) (lastNumbers g sized)) (tableOf (writtenTo t (after .parts)) n) x
   same-row x l = record {
     node = record {
       sameParent = stays x parentPlace (omega arith) (λ e. omega arith) (λ e. omega arith) (λ e. omega arith) (λ e. omega arith);
@@ -141,7 +143,7 @@ module _ {c : ℕ} (t : Parts) (n root h : ℕ) (fit : Fits c t) (room : n ≤ c
     entry = numbers .entry x;
   }
 
-  pub renumbered-exactly : RenumberedExactly c t n root h (renumbered (writtenOf t) (headAt m h))
+  pub renumbered-exactly : RenumberedExactly c t n h (renumbered (writtenOf t) (headAt m h))
   unfolding renumbered
   renumbered-exactly = record {
     fits = record {
@@ -152,6 +154,7 @@ module _ {c : ℕ} (t : Parts) (n root h : ℕ) (fit : Fits c t) (room : n ≤ c
       numbers = numbers .numbers .long;
       ancestors = numbers .ancestors .long;
     };
-    renumbered = renumbered-same g (last-renumbered g sized) record { count = refl; root = refl; row = same-row };
+    renumbered = renumbered-same g (last-renumbered g sized) record { count = refl; row = same-row };
     given = after-given g sized room links-after (held .path) first within;
+    roots = λ y. stays y rootPlace (omega arith) (λ e. omega arith) (λ e. omega arith) (λ e. omega arith) (λ e. omega arith);
   }

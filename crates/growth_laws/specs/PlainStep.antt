@@ -1,4 +1,5 @@
--- What a growth does to the plain tree (01, "Images and plain tree"): a leaf is put under its parent, a new root over the old one.
+-- What a growth does to the plain trees (01, "Images and plain tree"): a leaf is put under its parent, a new root over the old one, a first node
+-- is a tree by itself.
 use mathlib.Core.Path.{_≡_}
 use Prim.Native.Nat.{ℕ, suc, _<_}
 use lib.Dec.{eqb}
@@ -6,23 +7,30 @@ use Rattle.laws.specs.Test.{pick}
 use Rattle.tree_laws.specs.Ancestor.{none}
 use Rattle.rows.specs.Table.{Table, label}
 use Rattle.rows.specs.PlainTree.{plain}
-use Rattle.growth_laws.specs.Growth.{Growth, leaf, root, labelOf, rootOf}
+use Rattle.growth_laws.specs.Growth.{Growth, leaf, root, labelOf}
 
 -- the plain parent of the new row
 abbrev pub plainNew : Growth → ℕ
 plainNew (leaf v f) = v
-plainNew root = none
+plainNew (root r) = none
 
 -- the plain parent of an old row after the growth: a new root becomes the parent of the old one
 abbrev pub plainOld : Table → Growth → ℕ → ℕ
 plainOld t (leaf v f) x = plain t x
-plainOld t root x = pick (eqb x (t .root)) (t .count) (plain t x)
+plainOld t (root r) x = pick (eqb x r) (t .count) (plain t x)
 
--- the plain tree and the labels of d are those of t after one step of the plain list
+-- the plain trees and the labels of d are those of t after one step of the plain list
 pub record PlainStep (t d : Table) (g : Growth) : Type 0 where
   pub count : d .count ≡ suc (t .count)
-  pub root : d .root ≡ rootOf t g
   pub parentOld : (x : ℕ) → x < t .count → plain d x ≡ plainOld t g x
   pub parentNew : plain d (t .count) ≡ plainNew g
   pub labelOld : (x : ℕ) → x < t .count → label d x ≡ label t x
   pub labelNew : label d (t .count) ≡ labelOf g
+
+-- and after a first node
+pub record PlainStart (t d : Table) : Type 0 where
+  pub count : d .count ≡ suc (t .count)
+  pub parentOld : (x : ℕ) → x < t .count → plain d x ≡ plain t x
+  pub parentNew : plain d (t .count) ≡ none
+  pub labelOld : (x : ℕ) → x < t .count → label d x ≡ label t x
+  pub labelNew : label d (t .count) ≡ 0

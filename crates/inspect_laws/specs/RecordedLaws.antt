@@ -1,35 +1,35 @@
--- The test of rule 1 says that the table records one tree.
-use mathlib.Core.Path.{_≡_, refl, ap}
+-- The test of rule 1 says that the table records trees.
+use mathlib.Core.Path.{_≡_, refl, ap, sym, _∙_}
 use mathlib.Core.Bool.{Bool, true, false, _&&_}
 use mathlib.Core.Logic.{_≢_}
-use Prim.Native.Nat.{ℕ, zero, suc, _+_, _-_, _≤_, _<_}
-use native.Mathlib.Decide.{ℕ-discrete}
+use Prim.Native.Nat.{ℕ, _+_, _≤_, _<_}
 use native.Mathlib.Omega.{arith}
 use lib.Dec.{leb, ltb, eqb}
 use lib.IntN.{ℤ, pos, negsuc, pos-ne-negsuc}
-use Rattle.laws.specs.Test.{Says, holds, fails, says-map, says-and, says-leb, says-ltb, says-eqb, says-all, says-get, pick}
-use Rattle.tree_laws.specs.Ancestor.{none}
-use Rattle.tree_laws.specs.AncestorLaws.{says-isAncestor}
+use lib.ListN.{length}
+use Rattle.laws.specs.Test.{Says, holds, fails, says-map, says-and, says-leb, says-ltb, says-eqb, says-all, says-get}
+use Rattle.laws.specs.Sum.{sumTo, sum-eq, countTo, count-le}
+use Rattle.tree_laws.specs.Ancestor.{none, Anc, Forest}
+use Rattle.tree_laws.specs.AncestorLaws.{anc-in, says-isAncestor}
+use Rattle.tree_laws.specs.Chains.{Went, lastOf, chain-one, chain-once, sum-squeeze, isChild, isRoot, kids, all-kids, list-short, list-full, full-list, follow-yes, follow-no}
 use Rattle.tree_laws.specs.Depth.{Depth as Depths}
 use Rattle.tree_laws.specs.DepthLaws.{depth-forest}
-use Rattle.rows.specs.State.{Standing}
+use Rattle.tree_laws.specs.Top.{top-first, top-is, first-one}
 use Rattle.rows.specs.StateLaws.{says-standing}
 use Rattle.rows.specs.Table.{Table, parent, depth, label, level}
-use Rattle.rows.specs.StoredTree.{Child, FirstFrom, absent, least, LastOf, greatest, ChildLinks, OnLine, Level, labelLimit, Label, Depth}
+use Rattle.rows.specs.PlainTree.{first, root}
+use Rattle.rows.specs.StoredTree.{Child, ChildLinks, Rootd, OnLine, Level, labelLimit, Depth}
 use Rattle.rows.specs.Rules.{Each, Recorded}
-use Rattle.inspect_laws.specs.Choice.{says-pick}
-use Rattle.inspect_laws.specs.Recorded.{stateOf, isParent, isDepth, isOnLine, eqZ, levelBelow, isLevelOn, isLabelOn, firstIn, firstFrom, lastBelow, isFirst, isLast, isNext, areParents, areLevels, areLinks, isRecorded}
+use Rattle.inspect_laws.specs.Choice.{says-pick, says-unless, says-if}
+use Rattle.inspect_laws.specs.Recorded.{stateOf, isParent, isDepth, isRecordedRoot, isRootd, isOnLine, eqZ, levelBelow, isLevelOn, isLabel, chainOf, isLinked, rowsMet, areParents, areRoots, areLevels, areLinks, isRecorded}
 
 -- Parents and depths ---------------------------------------------------------
 
--- the parent of one row
-pub record Parent (t : Table) (x : ℕ) : Type 0 where
-  pub first : x ≡ 0 → parent t x ≡ none
-  pub smaller : x ≢ 0 → parent t x < x
+abbrev Parent : Table → ℕ → Type 0
+Parent t x = parent t x ≢ none → parent t x < t .count
 
 says-parent : (t : Table) (x : ℕ) → Says (Parent t x) (isParent t x)
-says-parent t x = says-map (λ h. record { first = h .0; smaller = h .1 }) (λ p. (p .first, p .smaller))
-    (says-pick (says-eqb x 0) (λ _. says-eqb (parent t x) none) (λ _. says-ltb (parent t x) x))
+says-parent t x = says-unless (says-eqb (parent t x) none) (λ _. says-ltb (parent t x) (t .count))
 
 says-depth : (t : Table) (x : ℕ) → Says (Depth t x) (isDepth t x)
 says-depth t x = says-map (λ h. record { first = h .0; below = h .1 }) (λ p. (p .first, p .below))
@@ -38,18 +38,42 @@ says-depth t x = says-map (λ h. record { first = h .0; below = h .1 }) (λ p. (
 says-parents : (t : Table) → Says (Each t (λ x. Parent t x × Depth t x)) (areParents t)
 says-parents t = says-all (λ x. isParent t x && isDepth t x) (t .count) (λ x l. says-and (says-parent t x) (λ _. says-depth t x))
 
--- the stored tree, by depth
+-- the stored trees, by depth
 pub depths : {t : Table} → t .count ≤ none → Each t (λ x. Parent t x × Depth t x) → Depths (parent t) (depth t) (t .count)
-depths {t} small h = record {
-  small = small;
-  inside = λ x l d. elim (ℕ-discrete x 0) [ yes e ↦ absurd (d (h x l .0 .first e)) | no e ↦ omega (arith, h x l .0 .smaller e) ];
-  root = λ x l. h x l .1 .first;
-  step = λ x l. h x l .1 .below;
-}
+depths {t} small h = record { small = small; inside = λ x l. h x l .0; root = λ x l. h x l .1 .first; step = λ x l. h x l .1 .below }
 
 -- the same from the test
 pub stored-depths : (t : Table) → t .count ≤ none → areParents t ≡ true → Depths (parent t) (depth t) (t .count)
 stored-depths t small e = depths small (says-get (says-parents t) e)
+
+-- Roots --------------------------------------------------------------------
+
+-- what the first row f of a tree records
+abbrev pub RecordedRoot : Table → ℕ → Type 0
+RecordedRoot t f = parent t f ≡ none → Rootd t f × (label t (t .root f) ≡ 0)
+
+module _ (t : Table) (forest : Forest (parent t) (depth t) (t .count)) where
+  in-tree : {r : ℕ} (f : ℕ) → parent t f ≡ none → r < t .count → Says (Anc (parent t) f r) (eqb (first t r) f)
+  in-tree {r} f e l = says-map (λ z. rw z at (top-first forest r l .over)) (λ p. top-is forest l record { over = p; top = e }) (says-eqb (first t r) f)
+
+  says-recorded-root : (f : ℕ) → Says (RecordedRoot t f) (isRootd t f)
+  says-recorded-root f = says-if (says-eqb (parent t f) none) (λ e. says-map
+      (λ h. (record { inUse = h .0; over = h .1 .0 }, h .1 .1))
+      (λ s. (s .0 .inUse, (s .0 .over, s .1)))
+      (says-and (says-ltb (t .root f) (t .count)) (λ l.
+      says-and (in-tree {r = t .root f} f e l) (λ _. says-eqb (label t (t .root f)) 0))))
+
+  pub says-roots : Says (Each t (RecordedRoot t)) (areRoots t)
+  says-roots = says-all (isRootd t) (t .count) (λ f l. says-recorded-root f)
+
+  -- the line of each tree
+  pub says-line : Each t (RecordedRoot t) → Each t (λ x. Says (OnLine t x) (isOnLine t x))
+  says-line s x l =
+      let f = top-first forest x l in
+      says-map
+      (λ p. record { first = first t x; is = f; over = p })
+      (λ o. rw (first-one (o .is) f) at (o .over))
+      (says-isAncestor forest x (root t x) (s (first t x) (anc-in forest l (f .over)) (f .top) .0 .inUse))
 
 -- Levels and labels ----------------------------------------------------------
 
@@ -73,152 +97,135 @@ says-level t x line = says-map
     go (holds o) = says-map (λ e. (λ _. e, λ n. absurd (n o))) (λ h. h .0 o) (says-eqZ (level t x) (levelBelow true above))
     go (fails n) = says-map (λ e. (λ o. absurd (n o), λ _. e)) (λ h. h .1 n) (says-eqZ (level t x) (levelBelow false above))
 
-says-label : (t : Table) (x : ℕ) → Says (OnLine t x) (isOnLine t x) → Says (Label t x) (isLabelOn t (isOnLine t x) x)
-says-label t x line = says-map (λ h. record { onLine = h .0; offLine = h .1 }) (λ p. (p .onLine, p .offLine))
-    (says-pick line (λ _. says-eqb (label t x) 0) (λ _. says-and (says-leb 1 (label t x)) (λ _. says-leb (label t x) labelLimit)))
-
-says-levels : (t : Table) → Each t (λ x. Says (OnLine t x) (isOnLine t x)) → Says (Each t (λ x. Level t x × Label t x)) (areLevels t)
-says-levels t line = says-all (λ x. isLevelOn t (isOnLine t x) x && isLabelOn t (isOnLine t x) x) (t .count)
-    (λ x l. says-and (says-level t x (line x l)) (λ _. says-label t x (line x l)))
+says-levels : (t : Table) → Each t (λ x. Says (OnLine t x) (isOnLine t x)) → Says (Each t (λ x. Level t x × (label t x ≤ labelLimit))) (areLevels t)
+says-levels t line = says-all (λ x. isLevelOn t (isOnLine t x) x && isLabel t x) (t .count)
+    (λ x l. says-and (says-level t x (line x l)) (λ _. says-leb (label t x) labelLimit))
 
 -- Child links ----------------------------------------------------------------
 
-module _ (t : Table) (v : ℕ) where
-  first-here : {k : ℕ} → k < t .count → parent t k ≡ v → FirstFrom t v k k
-  first-here {k} i p = least {w = k} (omega arith) record { inUse = i; parent = p } (λ c l _. l)
-
-  -- a child from k on that is not k
-  child-after : {k c : ℕ} → parent t k ≢ v → k ≤ c → Child t v c → suc k ≤ c
-  child-after {k} {c} d l z = elim (ℕ-discrete c k) [ yes e ↦ absurd (d (rw e at (z .parent))) | no e ↦ omega arith ]
-
-  first-later : {k w : ℕ} → parent t k ≢ v → FirstFrom t v (suc k) w → FirstFrom t v k w
-  first-later d (absent f) = absent (λ c l z. f c (child-after d l z) z)
-  first-later {w = w} d (least l c f) = least {w = w} (omega arith) c (λ b j z. f b (child-after d j z) z)
-
-  first-in : (k m : ℕ) → k + m ≡ t .count → FirstFrom t v k (firstIn (parent t) v k m)
-  unfolding firstIn
-  first-in k zero e = absent (λ c l z. omega (arith, z .inUse))
-  first-in k (suc m) e = go (says-eqb (parent t k) v) (first-in (suc k) m (omega arith))
-    where
-      go : {b : Bool} → Says (parent t k ≡ v) b → FirstFrom t v (suc k) (firstIn (parent t) v (suc k) m) → FirstFrom t v k (pick b k (firstIn (parent t) v (suc k) m))
-      go (holds p) f = first-here (omega arith) p
-      go (fails d) f = first-later d f
-
-  first-one : {k a b : ℕ} → FirstFrom t v k a → FirstFrom t v k b → a ≡ b
-  first-one (absent f) (absent g) = refl
-  first-one {b = b} (absent f) (least l c g) = absurd (f b l c)
-  first-one {a = a} (least l c g) (absent f) = absurd (f a l c)
-  first-one {a = a} {b} (least l c f) (least j d g) = omega (arith, f b j d, g a l c)
-
-  says-first : (k w : ℕ) → k ≤ t .count → Says (FirstFrom t v k w) (eqb w (firstFrom (parent t) (t .count) v k))
-  says-first k w l =
-      let f : FirstFrom t v k (firstFrom (parent t) (t .count) v k) = first-in k (t .count - k) (omega arith) in
-      says-map (λ e. rw e f) (λ g. first-one g f) (says-eqb w (firstFrom (parent t) (t .count) v k))
-
-  -- the greatest child below k
-  data LastBelow (k : ℕ) : ℕ → Type 0 where
-    nothing : ((c : ℕ) → c < k → parent t c ≢ v) → LastBelow k none
-    found : {w : ℕ} → w < k → parent t w ≡ v → ((c : ℕ) → c < k → parent t c ≡ v → c ≤ w) → LastBelow k w
-
-  last-more : {k w : ℕ} → parent t k ≢ v → LastBelow k w → LastBelow (suc k) w
-  last-more {k} d (nothing f) = nothing (λ c l p. elim (ℕ-discrete c k) [ yes e ↦ d (rw e at p) | no n ↦ f c (omega arith) p ])
-  last-more {k} {w} d (found i p f) =
-      found {w = w} (omega arith) p (λ c l z. elim (ℕ-discrete c k) [ yes e ↦ absurd (d (rw e at z)) | no n ↦ f c (omega arith) z ])
-
-  last-below : (k : ℕ) → LastBelow k (lastBelow (parent t) k v)
-  unfolding lastBelow
-  last-below zero = nothing (λ c l _. omega arith)
-  last-below (suc k) = go (says-eqb (parent t k) v) (last-below k)
-    where
-      go : {b : Bool} → Says (parent t k ≡ v) b → LastBelow k (lastBelow (parent t) k v) → LastBelow (suc k) (pick b k (lastBelow (parent t) k v))
-      go (holds p) f = found {w = k} (omega arith) p (λ c l _. omega arith)
-      go (fails d) f = last-more d f
-
-  last-of : {w : ℕ} → LastBelow (t .count) w → LastOf t v w
-  last-of (nothing f) = absent (λ c z. f c (z .inUse) (z .parent))
-  last-of (found i p f) = greatest record { inUse = i; parent = p } (λ c z. f c (z .inUse) (z .parent))
-
-  last-one : {a b : ℕ} → LastOf t v a → LastOf t v b → a ≡ b
-  last-one (absent f) (absent g) = refl
-  last-one {b = b} (absent f) (greatest c g) = absurd (f b c)
-  last-one {a = a} (greatest c g) (absent f) = absurd (f a c)
-  last-one {a = a} {b} (greatest c f) (greatest d g) = omega (arith, f b d, g a c)
-
-  says-last : (w : ℕ) → Says (LastOf t v w) (eqb w (lastBelow (parent t) (t .count) v))
-  says-last w =
-      let f : LastOf t v (lastBelow (parent t) (t .count) v) = last-of (last-below (t .count)) in
-      says-map (λ e. rw e f) (λ g. last-one g f) (says-eqb w (lastBelow (parent t) (t .count) v))
-
--- the next link of one row
-record Next (t : Table) (x : ℕ) : Type 0 where
-  sibling : parent t x ≢ none → FirstFrom t (parent t x) (x + 1) (t .row x .next)
+-- the chain of one row
+record Linked (t : Table) (x : ℕ) : Type 0 where
+  ends : chainOf t x .ok ≡ true
+  last : t .row x .last ≡ chainOf t x .last
   alone : parent t x ≡ none → t .row x .next ≡ none
 
-says-next : (t : Table) (x : ℕ) → x < t .count → Says (Next t x) (isNext t x)
-says-next t x l = go (says-eqb (parent t x) none)
-  where
-    go : {b : Bool} → Says (parent t x ≡ none) b → Says (Next t x) (eqb (t .row x .next) (pick b none (firstFrom (parent t) (t .count) (parent t x) (x + 1))))
-    go (holds e) = says-map (λ z. record { sibling = λ d. absurd (d e); alone = λ _. z }) (λ n. n .alone e) (says-eqb (t .row x .next) none)
-    go (fails d) = says-map (λ z. record { sibling = λ _. z; alone = λ e. absurd (d e) }) (λ n. n .sibling d)
-        (says-first t (parent t x) (x + 1) (t .row x .next) (omega arith))
+says-bool : (b : Bool) → Says (b ≡ true) b
+says-bool true = holds refl
+says-bool false = fails (λ e. let z : _≡_ {A = ℕ} 0 1 = cc in omega arith)
 
-says-links : (t : Table) → Says (Each t (ChildLinks t)) (areLinks t)
-says-links t = says-map
-    (λ h x l. record { first = h .1 .0 x l; last = h .1 .1 x l; next = h .0 x l .sibling; alone = h .0 x l .alone })
-    (λ h. (λ x l. record { sibling = h x l .next; alone = h x l .alone }, (λ x l. h x l .first, λ x l. h x l .last)))
-    (says-and (says-all (isNext t) (t .count) (says-next t)) (λ _.
-    says-and (says-all (isFirst t) (t .count) (λ x l. says-first t x 0 (t .row x .first) (omega arith))) (λ _.
-    says-all (isLast t) (t .count) (λ x l. says-last t x (t .row x .last)))))
+says-linked : (t : Table) (x : ℕ) → Says (Linked t x) (isLinked t x)
+says-linked t x = says-map
+    (λ h. record { ends = h .0; last = h .1 .0; alone = h .1 .1 })
+    (λ k. (k .ends, (k .last, k .alone)))
+    (says-and (says-bool (chainOf t x .ok)) (λ _.
+    says-and (says-eqb (t .row x .last) (chainOf t x .last)) (λ _.
+    says-if (says-eqb (parent t x) none) (λ _. says-eqb (t .row x .next) none))))
+
+kids-le : (up : ℕ → ℕ) (n v : ℕ) → kids up n v ≤ n
+unfolding kids
+kids-le up n v = count-le (isChild up n v) n
+
+module _ (t : Table) where
+  abbrev Walked : ℕ → Type 0
+  Walked x = Went (parent t) (λ w. t .row w .next) (t .count) x (t .row x .first) 0 none (chainOf t x)
+
+  -- a chain that ends lists children
+  walked : (x : ℕ) → chainOf t x .ok ≡ true → Walked x
+  walked x e = follow-yes (parent t) (λ w. t .row w .next) (t .count) x (t .count) (t .row x .first) 0 none e
+
+  short : (x : ℕ) → Walked x → chainOf t x .met ≤ kids (parent t) (t .count) x
+  short x g = omega (arith, g .counts, list-short (parent t) (t .count) x (g .listed .list) (chain-once (g .listed .chain)) (g .listed .over))
+
+  -- and all of them, where as many are met as there are
+  children : (x : ℕ) → Linked t x → chainOf t x .met ≡ kids (parent t) (t .count) x → ChildLinks t x
+  children x h full =
+      let g = walked x (h .ends) in
+      record {
+        list = g .listed .list;
+        chain = g .listed .chain;
+        over = λ w m. record { inUse = g .listed .over w m .0; parent = g .listed .over w m .1 };
+        all = λ w c. list-full (parent t) (t .count) x (g .listed .list) (chain-once (g .listed .chain)) (g .listed .over) (omega (arith, full, g .counts)) w (c .inUse) (c .parent);
+        last = h .last ∙ g .ends;
+        alone = h .alone;
+      }
+
+  module _ (x : ℕ) (k : ChildLinks t x) where
+    length-kids : length (k .list) ≡ kids (parent t) (t .count) x
+    length-kids = full-list (parent t) (t .count) x (k .list) (chain-once (k .chain)) (λ w m. (k .over w m .inUse, k .over w m .parent))
+        (λ w l e. k .all w record { inUse = l; parent = e })
+
+    chain-ends : chainOf t x .ok ≡ true
+    chain-ends = go (chainOf t x .ok) refl
+      where
+        go : (b : Bool) → chainOf t x .ok ≡ b → chainOf t x .ok ≡ true
+        go true e = e
+        go false e = absurd (follow-no (parent t) (λ w. t .row w .next) (t .count) x (t .count) (t .row x .first) 0 none e (k .list) (k .chain)
+            (λ w m. (k .over w m .inUse, k .over w m .parent)) (omega (arith, length-kids, kids-le (parent t) (t .count) x)))
+
+    same-list : walked x chain-ends .listed .list ≡ k .list
+    same-list = chain-one (walked x chain-ends .listed .chain) (k .chain)
+
+    linked : Linked t x
+    linked = record {
+      ends = chain-ends;
+      last = k .last ∙ sym (walked x chain-ends .ends ∙ ap lastOf same-list);
+      alone = k .alone;
+    }
+
+    all-met : chainOf t x .met ≡ kids (parent t) (t .count) x
+    all-met = omega (arith, walked x chain-ends .counts, ap length same-list, length-kids)
+
+  says-links : t .count ≤ none → Each t (Parent t) → Says (Each t (ChildLinks t)) (areLinks t)
+  says-links small inside = says-map to (λ h. (λ x l. linked x (h x l), omega (arith, sums, sum-eq met (kids (parent t) (t .count)) (t .count) (λ x l. all-met x (h x l)))))
+      (says-and (says-all (isLinked t) (t .count) (λ x l. says-linked t x)) (λ _. says-eqb (rowsMet t) (t .count)))
+    where
+      met : ℕ → ℕ
+      met x = chainOf t x .met
+
+      sums : sumTo (kids (parent t) (t .count)) (t .count) + countTo (isRoot (parent t) (t .count)) (t .count) ≡ t .count
+      sums = all-kids (parent t) (t .count) small inside
+
+      to : Each t (Linked t) × (rowsMet t ≡ t .count) → Each t (ChildLinks t)
+      to h x l = children x (h .0 x l) (sum-squeeze met (kids (parent t) (t .count)) (t .count) (λ j k. short j (walked j (h .0 j k .ends))) (omega (arith, h .1, sums)) x l)
 
 -- Rule 1 ---------------------------------------------------------------------
 
--- the stored tree of a table that passes rule 1
+-- the stored trees of a table that passes rule 1
 pub recorded-depths : {capacity : ℕ} {t : Table} → capacity ≤ none → Recorded capacity t → Depths (parent t) (depth t) (t .count)
-recorded-depths {t = t} small r = depths (omega (arith, r .count)) (λ x l. (
-  record {
-    first = λ e. rw e (r .first (omega arith));
-    smaller = λ d. r .smaller x l (omega arith);
-  },
-  r .depth x l,
-))
+recorded-depths {t = t} small r = depths (omega (arith, r .count)) (λ x l. (r .inside x l, r .depth x l))
 
 pub says-recorded : (capacity : ℕ) (t : Table) → capacity ≤ none → Says (Recorded capacity t) (isRecorded capacity t)
 unfolding isRecorded
 says-recorded capacity t small = says-map to from
     (says-and (says-standing capacity (stateOf t)) (λ s.
     says-and (says-parents t) (λ p.
-    says-and (says-levels t (line s p)) (λ _. says-links t))))
+    says-and (says-roots t (forest s p)) (λ r.
+    says-and (says-levels t (says-line t (forest s p) r)) (λ _. says-links t (omega (arith, s)) (λ x l. p x l .0))))))
   where
     Facts : Type 0
-    Facts = Standing capacity (stateOf t) × (Each t (λ x. Parent t x × Depth t x) × (Each t (λ x. Level t x × Label t x) × Each t (ChildLinks t)))
+    Facts = (t .count ≤ capacity) × (Each t (λ x. Parent t x × Depth t x) × (Each t (RecordedRoot t)
+        × (Each t (λ x. Level t x × (label t x ≤ labelLimit)) × Each t (ChildLinks t))))
 
-    line : Standing capacity (stateOf t) → Each t (λ x. Parent t x × Depth t x) → Each t (λ x. Says (OnLine t x) (isOnLine t x))
-    line s p x l = says-isAncestor (depth-forest (depths (omega (arith, s .count)) p)) x (t .root) (s .root (omega arith))
+    forest : t .count ≤ capacity → Each t (λ x. Parent t x × Depth t x) → Forest (parent t) (depth t) (t .count)
+    forest s p = depth-forest (depths (omega arith) p)
 
     to : Facts → Recorded capacity t
     to h = record {
-      count = h .0 .count;
-      noRoot = h .0 .noRoot;
-      root = h .0 .root;
-      first = λ l. h .1 .0 0 l .0 .first refl;
-      smaller = λ x l d. h .1 .0 x l .0 .smaller (λ e. omega arith);
+      count = h .0;
+      inside = λ x l. h .1 .0 x l .0;
       depth = λ x l. h .1 .0 x l .1;
-      level = λ x l. h .1 .1 .0 x l .0;
-      children = h .1 .1 .1;
-      label = λ x l. h .1 .1 .0 x l .1;
+      root = λ f l e. h .1 .1 .0 f l e .0;
+      labelRoot = λ f l e. h .1 .1 .0 f l e .1;
+      level = λ x l. h .1 .1 .1 .0 x l .0;
+      labelMost = λ x l. h .1 .1 .1 .0 x l .1;
+      children = h .1 .1 .1 .1;
     }
 
     from : Recorded capacity t → Facts
     from r = (
-      record { count = r .count; noRoot = r .noRoot; root = r .root },
+      r .count,
       (
-        λ x l. (
-          record {
-            first = λ e. rw e (r .first (omega arith));
-            smaller = λ d. r .smaller x l (omega arith);
-          },
-          r .depth x l,
-        ),
-        (λ x l. (r .level x l, r .label x l), r .children),
+        λ x l. (r .inside x l, r .depth x l),
+        (λ f l e. (r .root f l e, r .labelRoot f l e), (λ x l. (r .level x l, r .labelMost x l), r .children)),
       ),
     )

@@ -1,4 +1,4 @@
--- Levels (01, "Images and plain tree"): differences of levels count steps in the plain tree, and tell the rows on the line from node 0 to the root.
+-- Levels (01, "Images and plain tree"): differences of levels count steps in the plain tree, and tell the rows on the line from the first row of a tree to its root.
 use mathlib.Core.Path.{_≡_, refl, ap, sym, _∙_}
 use mathlib.Core.Logic.{inl, inr, _≢_}
 use Prim.Native.Nat.{ℕ, suc, _+_, _≤_, _<_}
@@ -8,21 +8,21 @@ use lib.IntN.{ℤ, pos, sucℤ, predℤ, _+ℤ_, _-ℤ_}
 use lib.IntN.{suc-pred, +ℤ-sucℤ, predℤ-+ℤ, +ℤ-idr, -ℤ-one, +ℤ-assoc, +ℤ-comm, +ℤ-negℤ-cancel, -ℤ-+ℤ-cancel}
 use Rattle.tree_laws.specs.Ancestor.{none, Anc, here, there, Forest}
 use Rattle.tree_laws.specs.AncestorLaws.{trans, cases, climb, anc-in, decAnc}
-use Rattle.tree_laws.specs.Reroot.{PlainParent, root, turned, kept}
-use Rattle.tree_laws.specs.RerootLaws.{plain-parent, plain-root-over}
+use Rattle.tree_laws.specs.Reroot.{PlainParent, root as top, turned, kept}
+use Rattle.tree_laws.specs.RerootLaws.{plain-parent, plain-kindred, plain-inside, plain-root-over}
+use Rattle.tree_laws.specs.Reroot.{plainParent}
 use Rattle.tree_laws.specs.PlainDepth.{plainDepth}
 use Rattle.tree_laws.specs.PlainDepthLaws.{plain-forest, plain-depth}
 use Rattle.rows.specs.Capacity.{capacityLimit}
 use Rattle.rows.specs.Table.{Table, parent, depth, level}
 use Rattle.rows.specs.StoredTree.{OnLine}
 use Rattle.rows.specs.PlainTree.{plain}
+use Rattle.tree_laws.specs.Top.{kindred-top}
 use Rattle.tree_laws.specs.Depth.{Steps, arrived, step}
-use Rattle.rows.specs.Rules.{Rules}
-use Rattle.numbering.specs.Numbered.{numbered, storedTree, stored-kindred}
-
--- the depth of a row in the plain tree
-abbrev pub plainDepthOf : Table → ℕ → ℕ
-plainDepthOf t = plainDepth (parent t) (depth t) (t .root)
+use Rattle.rows.specs.Rules.{Rules, numbered}
+use Rattle.rows.specs.PlainTree.{root}
+use Rattle.numbering.specs.Numbered.{shape, storedTree, InTree, stored-kindred, in-tree, first-is, first-in, anc-tree}
+use Rattle.numbering.specs.Lines.{root-in, line-over, over-line, decLine}
 
 -- how far the level of row x lies above minus its depth: not at all exactly on the line
 record Rise (t : Table) (x : ℕ) : Type 0 where
@@ -42,79 +42,98 @@ add-up l d =
 add-step : (l : ℤ) (k : ℕ) → (l +ℤ pos k) +ℤ pos 1 ≡ l +ℤ pos (k + 1)
 add-step l k = +ℤ-assoc l (pos k) (pos 1)
 
+-- the plain tree of the tree of f, and depths in it
+abbrev pub treeParent : Table → ℕ → ℕ → ℕ
+treeParent t f = plainParent (parent t) (depth t) (t .root f)
+
+abbrev pub treeDepth : Table → ℕ → ℕ → ℕ
+treeDepth t f = plainDepth (parent t) (depth t) (t .root f)
+
 module _ {capacity : ℕ} {t : Table} (r : Rules capacity t) (fits : capacity ≤ capacityLimit) where
   tree : Forest (parent t) (depth t) (t .count)
   tree = storedTree (numbered r fits)
 
-  root-inside : (x : ℕ) → x < t .count → t .root < t .count
-  root-inside x l = r .one .root (omega arith)
+  -- the plain parent of a row is that by its own tree's root
+  pub plain-tree : {f x : ℕ} → InTree t f x → plain t x ≡ treeParent t f x
+  plain-tree {f} {x} i = ap (λ (g : ℕ). plainParent (parent t) (depth t) (t .root g) x) (first-is (numbered r fits) i)
 
-  -- Steps in the plain tree
+  module _ {f : ℕ} where
+    root-use : {x : ℕ} → InTree t f x → t .root f < t .count
+    root-use i = root-in r fits i .inUse
 
-  level-plain-parent : {x y : ℕ} → x < t .count → PlainParent (parent t) (t .root) x y → y ≢ none → level t x ≡ level t y +ℤ pos 1
-  level-plain-parent l root h = absurd (h refl)
-  level-plain-parent {x} {y} l (turned k e s) h =
-      let z : level t y ≡ level t x -ℤ pos 1 = rw e at (r .one .level y (anc-in tree (root-inside x l) s) .onLine k s) in
-      rw z (sym (-ℤ-+ℤ-cancel (level t x) (pos 1)))
-  level-plain-parent {x} l (kept d) h = r .one .level x l .offLine h d
+    -- a plain parent is a row of the same tree
+    pub parent-in : {x : ℕ} → InTree t f x → treeParent t f x ≢ none → InTree t f (treeParent t f x)
+    parent-in {x} i h =
+        let p = plain-parent tree (root-use i) x (i .inUse) in
+        let k = plain-kindred tree (root-use i) (stored-kindred (numbered r fits) i (root-in r fits i)) p h in
+        let l = plain-inside tree (root-use i) (i .inUse) p h in
+        let e = kindred-top tree l (root-use i) k ∙ first-is (numbered r fits) (root-in r fits i) in
+        rw e at (in-tree (numbered r fits) (treeParent t f x) l)
 
-  -- one step up in the plain tree takes one from the level
-  pub level-plain : (x : ℕ) → x < t .count → plain t x ≢ none → level t x ≡ level t (plain t x) +ℤ pos 1
-  level-plain x l = level-plain-parent l (plain-parent tree (root-inside x l) x l)
+    -- Steps in the plain tree
 
-  -- k steps take k
-  pub level-steps : {a k x : ℕ} → x < t .count → Steps (plain t) a k x → level t x ≡ level t a +ℤ pos k
-  level-steps {a} l arrived = sym (+ℤ-idr (level t a))
-  level-steps {a} {x = x} l (step {k = k} h s) =
-      let i : plain t x < t .count = plain-forest tree (root-inside x l) .inside x l h in
-      level-plain x l h ∙ rw (level-steps i s, add-step, add-one)
+    level-plain-parent : {x y : ℕ} → InTree t f x → PlainParent (parent t) (t .root f) x y → y ≢ none → level t x ≡ level t y +ℤ pos 1
+    level-plain-parent i top h = absurd (h refl)
+    level-plain-parent {x} {y} i (turned k e s) h =
+        let j : InTree t f y = anc-tree (numbered r fits) (root-in r fits i) s in
+        let z : level t y ≡ level t x -ℤ pos 1 = rw e at (r .one .level y (j .inUse) .onLine k (over-line r fits j s)) in
+        rw z (sym (-ℤ-+ℤ-cancel (level t x) (pos 1)))
+    level-plain-parent {x} i (kept d) h = r .one .level x (i .inUse) .offLine h (λ o. d (line-over r fits i o))
 
-  -- so the distance to an ancestor is a difference of levels
-  pub level-distance : {a k x : ℕ} → x < t .count → Steps (plain t) a k x → level t x -ℤ level t a ≡ pos k
-  level-distance {a} {k} l s = rw (level-steps l s, +ℤ-comm (level t a) (pos k)) (+ℤ-negℤ-cancel (pos k) (level t a))
+    -- one step up in the plain tree takes one from the level
+    pub level-plain : (x : ℕ) → InTree t f x → treeParent t f x ≢ none → level t x ≡ level t (treeParent t f x) +ℤ pos 1
+    level-plain x i = level-plain-parent i (plain-parent tree (root-use i) x (i .inUse))
 
-  -- and the plain depth is the level above the root's
-  pub level-root : (x : ℕ) → x < t .count → level t x ≡ level t (t .root) +ℤ pos (plainDepthOf t x)
-  level-root x l = climb (plain-forest tree o) (λ x. level t x ≡ level t (t .root) +ℤ pos (plainDepthOf t x)) base up x l
-    where
-      o : t .root < t .count
-      o = root-inside x l
+    -- k steps take k
+    pub level-steps : {a k x : ℕ} → InTree t f x → Steps (treeParent t f) a k x → level t x ≡ level t a +ℤ pos k
+    level-steps {a} i arrived = sym (+ℤ-idr (level t a))
+    level-steps {a} {x = x} i (step {k = k} h s) = level-plain x i h ∙ rw (level-steps (parent-in i h) s, add-step, add-one)
 
-      base : (x : ℕ) → x < t .count → plain t x ≡ none → level t x ≡ level t (t .root) +ℤ pos (plainDepthOf t x)
-      base x l e = elim (cases (plain-root-over tree o l (stored-kindred r fits x (t .root) l o))) [
-        | inr s ↦ absurd (s .0 e)
-        | inl z ↦ rw (plain-depth (numbered r fits .shape) o .root x l e, +ℤ-idr) (ap (level t) (sym z))
-      ]
+    -- so the distance to an ancestor is a difference of levels
+    pub level-distance : {a k x : ℕ} → InTree t f x → Steps (treeParent t f) a k x → level t x -ℤ level t a ≡ pos k
+    level-distance {a} {k} i s = rw (level-steps i s, +ℤ-comm (level t a) (pos k)) (+ℤ-negℤ-cancel (pos k) (level t a))
 
-      up : (x : ℕ) → x < t .count → plain t x ≢ none → level t (plain t x) ≡ level t (t .root) +ℤ pos (plainDepthOf t (plain t x))
-          → level t x ≡ level t (t .root) +ℤ pos (plainDepthOf t x)
-      up x l h e = level-plain x l h ∙ rw (e, plain-depth (numbered r fits .shape) o .step x l h) (add-step (level t (t .root)) (plainDepthOf t (plain t x)))
+    -- and the plain depth is the level above the root's
+    pub level-root : (x : ℕ) → InTree t f x → level t x ≡ level t (t .root f) +ℤ pos (treeDepth t f x)
+    level-root x i = climb (plain-forest tree o) (λ x. InTree t f x → level t x ≡ level t (t .root f) +ℤ pos (treeDepth t f x)) base up x (i .inUse) i
+      where
+        o : t .root f < t .count
+        o = root-use i
 
-  -- The line from node 0 to the root
+        base : (x : ℕ) → x < t .count → treeParent t f x ≡ none → InTree t f x → level t x ≡ level t (t .root f) +ℤ pos (treeDepth t f x)
+        base x l e j = elim (cases (plain-root-over tree o l (stored-kindred (numbered r fits) j (root-in r fits j)))) [
+          | inr s ↦ absurd (s .0 e)
+          | inl z ↦ rw (plain-depth (shape (numbered r fits)) o .root x l e, +ℤ-idr) (ap (level t) (sym z))
+        ]
 
-  -- node 0 is over the root
-  first-over : (x : ℕ) → x < t .count → parent t x ≡ none → OnLine t x
-  first-over x l e =
-      let k = stored-kindred r fits x (t .root) l (root-inside x l) in
-      elim (cases (k .left)) [ inl z ↦ rw z at (k .right) | inr s ↦ absurd (s .0 e) ]
+        up : (x : ℕ) → x < t .count → treeParent t f x ≢ none
+            → (InTree t f (treeParent t f x) → level t (treeParent t f x) ≡ level t (t .root f) +ℤ pos (treeDepth t f (treeParent t f x)))
+            → InTree t f x → level t x ≡ level t (t .root f) +ℤ pos (treeDepth t f x)
+        up x l h e j = level-plain x j h ∙ rw (e (parent-in j h), plain-depth (shape (numbered r fits)) o .step x l h) (add-step (level t (t .root f)) (treeDepth t f (treeParent t f x)))
+
+  -- The line from the first row to the root
 
   rises : (x : ℕ) → x < t .count → Rise t x
   rises = climb tree (Rise t) base up
     where
       base : (x : ℕ) → x < t .count → parent t x ≡ none → Rise t x
-      base x l e = record {
-        rise = 0;
-        is = rw (r .one .level x l .first e, r .one .depth x l .first e);
-        on = λ _. refl;
-        off = λ d. absurd (d (first-over x l e));
-      }
+      base x l e =
+          let i : InTree t x x = record { inUse = l; is = record { over = here; top = e } } in
+          record {
+            rise = 0;
+            is = rw (r .one .level x l .first e, r .one .depth x l .first e);
+            on = λ _. refl;
+            off = λ d. absurd (d (over-line r fits i (root-in r fits i .is .over)));
+          }
 
       up : (x : ℕ) → x < t .count → parent t x ≢ none → Rise t (parent t x) → Rise t x
-      up x l h i = elim (decAnc tree x (t .root) (root-inside x l)) [
+      up x l h i = elim (decLine r fits x l) [
         | yes o ↦ record {
           rise = i .rise;
           is = rw (r .one .level x l .onLine h o, r .one .depth x l .below h, add-down) (i .is);
-          on = λ _. i .on (trans (there h here) o);
+          on = λ _.
+              let j = in-tree (numbered r fits) x l in
+              i .on (over-line r fits (anc-tree (numbered r fits) j (there h here)) (trans (there h here) (line-over r fits j o)));
           off = λ d. absurd (d o);
         }
         | no d ↦ record {
@@ -132,4 +151,4 @@ module _ {capacity : ℕ} {t : Table} (r : Rules capacity t) (fits : capacity �
   pub level-line : (x : ℕ) → x < t .count → level t x +ℤ pos (depth t x) ≡ pos 0 → OnLine t x
   level-line x l e =
       let i = rises x l in
-      elim (decAnc tree x (t .root) (root-inside x l)) [ yes o ↦ o | no d ↦ absurd (i .off d (cc)) ]
+      elim (decLine r fits x l) [ yes o ↦ o | no d ↦ absurd (i .off d (cc)) ]

@@ -1,43 +1,30 @@
--- What the numbering laws need of a table: its stored tree, its compressed tree, its spans and its entries; no labels, levels or root.
--- Several trees may stand in one table.
-use mathlib.Core.Path.{_≡_, refl}
-use mathlib.Core.Logic.{_≢_}
-use Prim.Native.Nat.{ℕ, _≤_, _<_}
+-- The two trees of a numbered table, and the rows of one of its trees. No labels, levels or roots.
+use mathlib.Core.Path.{_≡_, refl, sym}
+use mathlib.Core.Logic.{inl, inr, _≢_}
+use Prim.Native.Nat.{ℕ, _*_, _^_, _≤_, _<_}
 use native.Mathlib.Decide.{ℕ-discrete}
 use native.Mathlib.Omega.{arith}
-use Rattle.tree_laws.specs.Ancestor.{none, Forest}
-use Rattle.tree_laws.specs.AncestorLaws.{row-some, anc-in}
+use Rattle.tree_laws.specs.Ancestor.{none, Anc, Forest}
+use Rattle.tree_laws.specs.AncestorLaws.{trans, row-some, anc-in, root-of}
 use Rattle.tree_laws.specs.Depth.{Depth}
 use Rattle.tree_laws.specs.DepthLaws.{depth-forest}
+use Rattle.tree_laws.specs.Top.{First, first-one, top-first, top-is}
 use Rattle.tree_laws.specs.Nca.{Kindred}
-use Rattle.tree_laws.specs.NcaLaws.{single-tree}
 use Rattle.tree_laws.specs.Compressed.{Compressed as CompressedBy}
-use Rattle.tree_laws.specs.CompressedLaws.{compressed-forest, kindred-upper}
-use Rattle.rows.specs.Capacity.{capacityLimit}
-use Rattle.rows.specs.Table.{Table, parent, depth, upper, path, start}
-use Rattle.rows.specs.CompressedTree.{SetSize, SmallChild}
-use Rattle.rows.specs.Entries.{Entries}
-use Rattle.rows.specs.Rules.{Each, Compressed, Nested, Rules}
-
--- the stored tree of depths, and rules 2 to 6; each root starts at 0
-pub record Numbered (t : Table) : Type 0 where
-  pub count : t .count ≤ capacityLimit
-  pub shape : Depth (parent t) (depth t) (t .count)
-  pub compressed : Compressed t
-  pub setSize : Each t (SetSize t)
-  pub small : Each t (SmallChild t)
-  pub nested : Nested t
-  pub rootStart : Each t (λ x. parent t x ≡ none → start t x ≡ 0)
-  pub entries : Each t (Entries t)
-
--- Its two trees
+use Rattle.tree_laws.specs.CompressedLaws.{compressed-forest, kindred-upper, to-stored}
+use Rattle.rows.specs.PlainTree.{first}
+use Rattle.rows.specs.Table.{Table, parent, depth, upper, path}
+use Rattle.rows.specs.Rules.{Numbered}
 
 module _ {t : Table} (r : Numbered t) where
+  pub shape : Depth (parent t) (depth t) (t .count)
+  shape = record { small = omega (arith, r .count); inside = r .inside; root = λ x l. r .depth x l .first; step = λ x l. r .depth x l .below }
+
   pub storedTree : Forest (parent t) (depth t) (t .count)
-  storedTree = depth-forest (r .shape)
+  storedTree = depth-forest shape
 
   pub uppers : CompressedBy (parent t) (path t) (upper t) (t .count)
-  uppers = record { root = λ x l. r .compressed .upper x l .root; first = λ x l. r .compressed .upper x l .first }
+  uppers = record { root = λ x l. r .two .upper x l .root; first = λ x l. r .two .upper x l .first }
 
   pub compressedTree : Forest (upper t) (depth t) (t .count)
   compressedTree = compressed-forest storedTree uppers
@@ -49,39 +36,37 @@ module _ {t : Table} (r : Numbered t) where
     | no h ↦ absurd (row-some storedTree (anc-in storedTree (storedTree .inside x l h) (uppers .first x l h .above)) refl e)
   ]
 
--- A table that passes inspection
+-- row x stands in the tree whose first row is f
+pub record InTree (t : Table) (f x : ℕ) : Type 0 where
+  pub inUse : x < t .count
+  pub is : First (parent t) f x
 
-module _ {capacity : ℕ} {t : Table} (r : Rules capacity t) (fits : capacity ≤ capacityLimit) where
-  -- node 0 is the one root
-  root-first : (x : ℕ) → x < t .count → parent t x ≡ none → x ≡ 0
-  root-first x l e = elim (ℕ-discrete x 0) [ yes z ↦ z | no d ↦ absurd (omega (arith, r .one .smaller x l (omega arith), r .one .count)) ]
+module _ {t : Table} (r : Numbered t) where
+  -- every row stands in a tree, and two rows of one tree are kindred
+  pub in-tree : (x : ℕ) → x < t .count → InTree t (first t x) x
+  in-tree x l = record { inUse = l; is = top-first (storedTree r) x l }
 
-  parent-inside : (x : ℕ) → x < t .count → parent t x ≢ none → parent t x < t .count
-  parent-inside x l h = elim (ℕ-discrete x 0) [
-    | yes z ↦ absurd (h (rw z (r .one .first (omega arith))))
-    | no d ↦ omega (arith, r .one .smaller x l (omega arith))
-  ]
+  pub first-in : {f x : ℕ} → InTree t f x → f < t .count
+  first-in i = anc-in (storedTree r) (i .inUse) (i .is .over)
 
-  pub numbered : Numbered t
-  numbered = record {
-    count = omega (arith, r .one .count);
-    shape = record {
-      small = omega (arith, r .one .count);
-      inside = parent-inside;
-      root = λ x l. r .one .depth x l .first;
-      step = λ x l. r .one .depth x l .below;
-    };
-    compressed = r .two;
-    setSize = r .three;
-    small = r .four;
-    nested = r .five;
-    rootStart = λ x l e. rw (root-first x l e) (r .five .first (omega arith));
-    entries = r .six;
-  }
+  pub first-is : {f x : ℕ} → InTree t f x → first t x ≡ f
+  first-is i = top-is (storedTree r) (i .inUse) (i .is)
 
-  -- it holds one tree
-  pub stored-kindred : (x y : ℕ) → x < t .count → y < t .count → Kindred (parent t) x y
-  stored-kindred = single-tree (storedTree numbered) 0 root-first
+  pub anc-tree : {f a x : ℕ} → InTree t f x → Anc (parent t) a x → InTree t f a
+  anc-tree {f} {a} {x} i p =
+      let l : a < t .count = anc-in (storedTree r) (i .inUse) p in
+      let q = top-first (storedTree r) a l in
+      record { inUse = l; is = rw (first-one record { over = trans (q .over) p; top = q .top } (i .is)) at q }
 
-  pub compressed-kindred : (x y : ℕ) → x < t .count → y < t .count → Kindred (upper t) x y
-  compressed-kindred x y l m = kindred-upper (storedTree numbered) (uppers numbered) l m (stored-kindred x y l m)
+  pub stored-kindred : {f x y : ℕ} → InTree t f x → InTree t f y → Kindred (parent t) x y
+  stored-kindred {f} i j = record { root = f; left = i .is .over; right = j .is .over }
+
+  pub compressed-kindred : {f x y : ℕ} → InTree t f x → InTree t f y → Kindred (upper t) x y
+  compressed-kindred i j = kindred-upper (storedTree r) (uppers r) (i .inUse) (j .inUse) (stored-kindred i j)
+
+  -- the root over x in the compressed tree is the first row of its stored tree
+  pub root-first : (x : ℕ) (l : x < t .count) → root-of (compressedTree r) x l .root ≡ first t x
+  root-first x l =
+      let o = root-of (compressedTree r) x l in
+      let i : o .root < t .count = anc-in (compressedTree r) l (o .over) in
+      sym (top-is (storedTree r) l record { over = to-stored (storedTree r) (uppers r) l (o .over); top = root-stored r (o .root) i (o .top) })

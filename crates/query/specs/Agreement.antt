@@ -21,6 +21,7 @@ use Rattle.query.specs.StoredAnswer.{pathRowOf, isOnRow, meeting, branch
 pub record Agree (t u : Table) (v : ℕ) : Type 0 where
   pub row : t .row v ≡ u .row v
   pub entry : (i : ℕ) → i < entryStride → t .entry v i ≡ u .entry v i
+  pub root : t .root v ≡ u .root v
 
 -- so in each column
 pub column : {A : Type 0} {t u : Table} {v : ℕ} (f : Row → A) → Agree t u v → f (t .row v) ≡ f (u .row v)

@@ -1,14 +1,15 @@
 -- The rows that a question draws on (01, "A question draws on at most 64 rows when some 64 rows or fewer exist such that all tables of that
--- capacity, filled with anything, that agree in those rows, count and source give the same outcome").
+-- capacity, filled with anything, that agree in those rows, count and root give the same outcome"). Roots stand in the rows now.
 use mathlib.Core.Path.{_≡_}
 use mathlib.Core.List.{List, [], _∷_, _++_}
 use Prim.Native.Nat.{ℕ, _≤_, _<_}
 use lib.ListN.{length, getD}
 use Rattle.laws.specs.Test.{pick}
 use Rattle.rows.specs.declared.state.State.{State}
-use Rattle.rows.specs.Layout.{entryStride}
-use Rattle.rows.specs.Row.{Parts, rowAt, entryAt}
+use Rattle.rows.specs.Layout.{entryStride, rootPlace}
+use Rattle.rows.specs.Row.{Parts, rowAt, entryAt, fieldAt}
 use Rattle.rows.specs.Capacity.{Fits}
+use Rattle.rows.specs.Tree.{treePlace}
 use Rattle.rows.specs.Table.{Table, parent, upper}
 use Rattle.rows.specs.Spans.{p}
 use Rattle.span.specs.Rank.{rankOf}
@@ -22,6 +23,7 @@ use Rattle.query.specs.Question.{question}
 pub record SameRow (a b : Parts) (v : ℕ) : Type 0 where
   pub row : rowAt a v ≡ rowAt b v
   pub entry : (i : ℕ) → i < entryStride → entryAt (a .ancestors) v i ≡ entryAt (b .ancestors) v i
+  pub root : fieldAt (a .fields) v rootPlace ≡ fieldAt (b .fields) v rootPlace
 
 -- at most k rows decide the outcome of a question in a table of capacity c
 pub record DrawsOn (k c : ℕ) (a : Parts) (s : State) (x y : ℕ) : Type 0 where
@@ -43,18 +45,22 @@ sidesRows t d x y = sideRows t (t .entry x (rankOf d)) d (p t y) x ++ sideRows t
 abbrev pub storedRows : Table → ℕ → ℕ → List ℕ
 storedRows t x y = sidesRows t (between (p t x) (p t y)) x y
 
--- the node whose stored answer with the root is sought, where the line goes on below the stored answer f for x and y
+-- the node whose stored answer with the root r is sought, where the line goes on below the stored answer f for x and y
 abbrev pub onward : Table → ℕ → ℕ → Fork → ℕ
 onward t x y f = pick (leadsOn t (f .nca) (f .«to_x»)) x y
 
 -- the rows of a plain answer from the stored answer f: its branches, and those of one more stored answer
-abbrev pub lowerRows : Table → ℕ → ℕ → Fork → List ℕ
-lowerRows t x y f = f .«to_x» ∷ f .«to_y» ∷ storedRows t (onward t x y f) (t .root)
+abbrev pub lowerRows : Table → ℕ → ℕ → ℕ → Fork → List ℕ
+lowerRows t r x y f = f .«to_x» ∷ f .«to_y» ∷ storedRows t (onward t x y f) r
 
--- the rows of a question: those of x, y and the root, and of two stored answers
+-- the rows of a question in the tree of root r: those of x, y and the root, and of two stored answers
+abbrev pub treeRows : Table → ℕ → ℕ → ℕ → List ℕ
+treeRows t r x y = x ∷ y ∷ r ∷ (storedRows t x y ++ lowerRows t r x y (storedAnswer t x y))
+
+-- and with them the first row of the tree, which records that root
 abbrev pub rowsRead : Table → ℕ → ℕ → List ℕ
-rowsRead t x y = x ∷ y ∷ t .root ∷ (storedRows t x y ++ lowerRows t x y (storedAnswer t x y))
+rowsRead t x y = t .entry x treePlace ∷ treeRows t (t .root (t .entry x treePlace)) x y
 
 -- so many
 abbrev pub most : ℕ
-most = 25
+most = 26

@@ -17,9 +17,10 @@ use Rattle.span.specs.RankLaws.{rank-small}
 use Rattle.rows.specs.declared.capacity.Fit.{Fit}
 use Rattle.rows.specs.declared.refusal.Refusal.the-variants.{Corrupt}
 use Rattle.rows.specs.declared.state.State.{State}
-use Rattle.rows.specs.Layout.{entryStride}
-use Rattle.rows.specs.Row.{Parts, rowAt, levelAt, entryAt}
+use Rattle.rows.specs.Layout.{entryStride, fieldStride, rootPlace}
+use Rattle.rows.specs.Row.{Parts, rowAt, levelAt, entryAt, fieldAt}
 use Rattle.rows.specs.Capacity.{Fits}
+use Rattle.rows.specs.Tree.{treePlace}
 use Rattle.rows.specs.CapacityLaws.{fits-told}
 use Rattle.rows.specs.Table.{Table, tableOf}
 use Rattle.rows.specs.Spans.{p}
@@ -31,11 +32,13 @@ use Rattle.query.specs.Line.{eqZ, isLineLevel}
 use Rattle.query.specs.StoredAnswer.{Asked, isOnRow, meeting, branchOf, between, join, alone, lost, storedFrom, storedAnswer, forked}
 use Rattle.query.specs.PlainAnswer.{isAbove, leadsOn, lowerX, lowerY, lowered, areRows, plainFrom, plainAnswer}
 use Rattle.query.specs.Outcome.{Outcome, refused}
-use Rattle.query.specs.Question.{valuesOf, isServed, served, asked, question}
+use Rattle.query.specs.Question.{valuesOf, isServed, served, onSought, asked, question}
+use Rattle.query.specs.Sought.{soughtIn}
+use Rattle.query.specs.SoughtLaws.{sought-at, sought-same}
 use Rattle.query.specs.AnswerRows.{are-rows}
 use Rattle.query.specs.QuestionLaws.{tests-asked}
 use Rattle.query.specs.Agreement.{Agree, Both, column, is-row-same, side-both, side-same, meeting-agree, join-same}
-use Rattle.query.specs.FewRows.{SameRow, DrawsOn, sideRows, storedRows, onward, lowerRows, rowsRead, most}
+use Rattle.query.specs.FewRows.{SameRow, DrawsOn, sideRows, storedRows, onward, lowerRows, treeRows, rowsRead, most}
 
 -- what holds of every number of a list
 abbrev Every : (ℕ → Type 0) → List ℕ → Type 0
@@ -140,9 +143,9 @@ module _ {t u : Table} (n : t .count ≡ u .count) (gone : Agree t u none) where
   line-same : {v : ℕ} → Agree t u v → isLineLevel t v ≡ isLineLevel u v
   line-same g = column (λ r. eqZ (r .level +ℤ pos (r .depth)) (pos 0)) g
 
-  above-same : {a : ℕ} → t .root ≡ u .root → Agree t u a → isAbove t a ≡ isAbove u a
+  above-same : (r : ℕ) {a : ℕ} → Agree t u a → isAbove t r a ≡ isAbove u r a
   unfolding isAbove
-  above-same r g = rw (line-same g, r)
+  above-same r g = rw (line-same g)
 
   leads-same : (a : ℕ) {v : ℕ} → Agree t u v → leadsOn t a v ≡ leadsOn u a v
   unfolding leadsOn
@@ -156,105 +159,96 @@ module _ {t u : Table} (n : t .count ≡ u .count) (gone : Agree t u none) where
   unfolding lowerY
   lower-y-same f g = rw (column (λ r. r .parent) g)
 
-  -- the second stored answer, for z and the root
-  module _ (r : t .root ≡ u .root) (z : ℕ) (hz : IsRow t z) (hr : IsRow t (t .root)) (gz : Agree t u z) (gr : Agree t u (t .root))
-      (h : Every (Agree t u) (storedRows t z (t .root))) where
-    second-agree : Agree t u (storedAnswer t z (t .root) .nca)
-    second-agree = stored-agree z (t .root) hz hr gz gr h
-
-    second-same : storedAnswer t z (t .root) ≡ storedAnswer u z (u .root)
-    second-same = stored-same z (t .root) hz hr gz gr h ∙ ap (storedAnswer u z) r
-
   -- both outcomes of a plain answer, where the line goes on below the stored answer f
-  module _ (r : t .root ≡ u .root) (x y : ℕ) (k : Asked t x y) (gx : Agree t u x) (gy : Agree t u y) (gr : Agree t u (t .root))
+  module _ (r x y : ℕ) (k : Asked t x y) (gx : Agree t u x) (gy : Agree t u y) (gr : Agree t u r)
       (f : Fork) (ga : Agree t u (f .nca)) (gu : Agree t u (f .«to_x»)) (gv : Agree t u (f .«to_y»))
-      (h : Every (Agree t u) (storedRows t (onward t x y f) (t .root))) where
+      (h : Every (Agree t u) (storedRows t (onward t x y f) r)) where
     tested : Table → Bool → Bool → Fork
-    tested s a b = pick a (lowerX s (storedAnswer s x (s .root))) (pick b (lowerY s (storedAnswer s y (s .root))) f)
+    tested s a b = pick a (lowerX s (storedAnswer s x r)) (pick b (lowerY s (storedAnswer s y r)) f)
 
-    lowered-agree : IsRow t (t .root) → Agree t u (lowered t x y f .nca)
+    lowered-agree : IsRow t r → Agree t u (lowered t r x y f .nca)
     unfolding lowered lowerX lowerY forked tested
     lowered-agree hr = go (leadsOn t (f .nca) (f .«to_x»)) (leadsOn t (f .nca) (f .«to_y»)) h
       where
-        go : (a b : Bool) → Every (Agree t u) (storedRows t (pick a x y) (t .root)) → Agree t u (tested t a b .nca)
-        go true b i = second-agree r x (k .left) hr gx gr i
-        go false true i = second-agree r y (k .right) hr gy gr i
+        go : (a b : Bool) → Every (Agree t u) (storedRows t (pick a x y) r) → Agree t u (tested t a b .nca)
+        go true b i = stored-agree x r (k .left) hr gx gr i
+        go false true i = stored-agree y r (k .right) hr gy gr i
         go false false i = ga
 
-    lowered-same : IsRow t (t .root) → lowered t x y f ≡ lowered u x y f
+    lowered-same : IsRow t r → lowered t r x y f ≡ lowered u r x y f
     unfolding lowered tested
     lowered-same hr =
         go (leadsOn t (f .nca) (f .«to_x»)) (leadsOn t (f .nca) (f .«to_y»)) h
         ∙ ap (λ a. tested u a (leadsOn t (f .nca) (f .«to_y»))) (leads-same (f .nca) gu)
         ∙ ap (tested u (leadsOn u (f .nca) (f .«to_x»))) (leads-same (f .nca) gv)
       where
-        go : (a b : Bool) → Every (Agree t u) (storedRows t (pick a x y) (t .root)) → tested t a b ≡ tested u a b
-        go true b i = lower-x-same _ (second-agree r x (k .left) hr gx gr i) ∙ ap (lowerX u) (second-same r x (k .left) hr gx gr i)
-        go false true i = lower-y-same _ (second-agree r y (k .right) hr gy gr i) ∙ ap (lowerY u) (second-same r y (k .right) hr gy gr i)
+        go : (a b : Bool) → Every (Agree t u) (storedRows t (pick a x y) r) → tested t a b ≡ tested u a b
+        go true b i = lower-x-same _ (stored-agree x r (k .left) hr gx gr i) ∙ ap (lowerX u) (stored-same x r (k .left) hr gx gr i)
+        go false true i = lower-y-same _ (stored-agree y r (k .right) hr gy gr i) ∙ ap (lowerY u) (stored-same y r (k .right) hr gy gr i)
         go false false i = refl
 
-    plain-from-agree : Agree t u (plainFrom t x y f .nca)
+    plain-from-agree : Agree t u (plainFrom t r x y f .nca)
     unfolding plainFrom
-    plain-from-agree = go (f .sound && isAbove t (f .nca)) (areRows t f) refl
+    plain-from-agree = go (f .sound && isAbove t r (f .nca)) (areRows t r f) refl
       where
-        go : (a b : Bool) → areRows t f ≡ b → Agree t u (pick a (pick b (lowered t x y f) lost) f .nca)
-        go true true e = lowered-agree (are-rows t f e .root)
+        go : (a b : Bool) → areRows t r f ≡ b → Agree t u (pick a (pick b (lowered t r x y f) lost) f .nca)
+        go true true e = lowered-agree (are-rows t r f e .root)
         go true false e = gone
         go false b e = ga
 
-    rows-same : areRows t f ≡ areRows u f
+    rows-same : areRows t r f ≡ areRows u r f
     unfolding areRows
-    rows-same = rw (is-row-same n gone gv, is-row-same n gone gu, is-row-same n gone gr, r)
+    rows-same = rw (is-row-same n gone gv, is-row-same n gone gu, is-row-same n gone gr)
 
-    plain-from-same : plainFrom t x y f ≡ plainFrom u x y f
+    plain-from-same : plainFrom t r x y f ≡ plainFrom u r x y f
     unfolding plainFrom
-    plain-from-same = ap (λ g. pick (f .sound && isAbove t (f .nca)) g f) (go (areRows t f) refl) ∙ rw (above-same r ga, rows-same)
+    plain-from-same = ap (λ g. pick (f .sound && isAbove t r (f .nca)) g f) (go (areRows t r f) refl) ∙ rw (above-same r ga, rows-same)
       where
-        go : (b : Bool) → areRows t f ≡ b → pick b (lowered t x y f) lost ≡ pick b (lowered u x y f) lost
-        go true e = lowered-same (are-rows t f e .root)
+        go : (b : Bool) → areRows t r f ≡ b → pick b (lowered t r x y f) lost ≡ pick b (lowered u r x y f) lost
+        go true e = lowered-same (are-rows t r f e .root)
         go false e = refl
 
   values-same : (x y : ℕ) (f : Fork) → Agree t u x → Agree t u y → Agree t u (f .nca) → valuesOf t x y f ≡ valuesOf u x y f
   values-same x y f i j k = rw (column (λ r. r .level) i, column (λ r. r .level) j, column (λ r. r .level) k, column (λ r. r .label) k)
 
-  module _ (r : t .root ≡ u .root) (x y : ℕ) (h : Every (Agree t u) (rowsRead t x y)) where
+  module _ (r x y : ℕ) (h : Every (Agree t u) (treeRows t r x y)) where
     gx : Agree t u x
     gx = h .0
 
     gy : Agree t u y
     gy = h .1 .0
 
-    gr : Agree t u (t .root)
+    gr : Agree t u r
     gr = h .1 .1 .0
 
     xy : Every (Agree t u) (storedRows t x y)
-    xy = every-left (Agree t u) (storedRows t x y) (lowerRows t x y (storedAnswer t x y)) (h .1 .1 .1)
+    xy = every-left (Agree t u) (storedRows t x y) (lowerRows t r x y (storedAnswer t x y)) (h .1 .1 .1)
 
-    lower : Every (Agree t u) (lowerRows t x y (storedAnswer t x y))
-    lower = every-right (Agree t u) (storedRows t x y) (lowerRows t x y (storedAnswer t x y)) (h .1 .1 .1)
+    lower : Every (Agree t u) (lowerRows t r x y (storedAnswer t x y))
+    lower = every-right (Agree t u) (storedRows t x y) (lowerRows t r x y (storedAnswer t x y)) (h .1 .1 .1)
 
     module _ (k : Asked t x y) where
-      plain-agree : Agree t u (plainAnswer t x y .nca)
+      plain-agree : Agree t u (plainAnswer t r x y .nca)
       unfolding plainAnswer
       plain-agree =
           plain-from-agree r x y k gx gy gr (storedAnswer t x y) (stored-agree x y (k .left) (k .right) gx gy xy) (lower .0) (lower .1 .0) (lower .1 .1)
 
-      plain-same : plainAnswer t x y ≡ plainAnswer u x y
+      plain-same : plainAnswer t r x y ≡ plainAnswer u r x y
       unfolding plainAnswer
       plain-same =
           plain-from-same r x y k gx gy gr (storedAnswer t x y) (stored-agree x y (k .left) (k .right) gx gy xy) (lower .0) (lower .1 .0) (lower .1 .1)
-          ∙ ap (plainFrom u x y) (stored-same x y (k .left) (k .right) gx gy xy)
+          ∙ ap (plainFrom u r x y) (stored-same x y (k .left) (k .right) gx gy xy)
 
-    -- the outcome in a table of this count and root
-    pub served-same : served t x y ≡ served u x y
+    -- the outcome in a table of this count, in the tree of this root
+    pub served-same : served t r x y ≡ served u r x y
     unfolding served isServed
     served-same = go (isRow t x) (isRow t y) refl refl
       where
         here : Bool → Bool → Outcome
-        here a b = pick (a && b && plainAnswer t x y .sound) (valuesOf t x y (plainAnswer t x y)) (refused Corrupt)
+        here a b = pick (a && b && plainAnswer t r x y .sound) (valuesOf t x y (plainAnswer t r x y)) (refused Corrupt)
 
         other : Bool → Bool → Outcome
-        other a b = pick (a && b && plainAnswer u x y .sound) (valuesOf u x y (plainAnswer u x y)) (refused Corrupt)
+        other a b = pick (a && b && plainAnswer u r x y .sound) (valuesOf u x y (plainAnswer u r x y)) (refused Corrupt)
 
         back : {a b : Bool} → isRow t x ≡ a → isRow t y ≡ b → other a b ≡ other (isRow u x) (isRow u y)
         back i j = rw (← i, ← j, is-row-same n gone gx, is-row-same n gone gy)
@@ -264,13 +258,16 @@ module _ {t u : Table} (n : t .count ≡ u .count) (gone : Agree t u none) where
         go true false i j = back i j
         go true true i j =
             let q = tests-asked t x y i j in
-            ap (λ o. pick (plainAnswer t x y .sound) o (refused Corrupt)) (values-same x y (plainAnswer t x y) gx gy (plain-agree q))
+            ap (λ o. pick (plainAnswer t r x y .sound) o (refused Corrupt)) (values-same x y (plainAnswer t r x y) gx gy (plain-agree q))
             ∙ ap (λ f. pick (f .sound) (valuesOf u x y f) (refused Corrupt)) (plain-same q)
             ∙ back i j
 
 -- past the capacity all parts are alike
 nothing : Parts
 nothing = record { fields = []; numbers = []; levels = []; ancestors = [] }
+
+field-past : {c v : ℕ} (a : Parts) → Fits c a → c ≤ v → (k : ℕ) → k < fieldStride → fieldAt (a .fields) v k ≡ 0
+field-past {c} {v} a f h k i = List·getD-eq-default (a .fields) 0 (omega (arith, f .fields))
 
 row-past : {c v : ℕ} (a : Parts) → Fits c a → c ≤ v → rowAt a v ≡ rowAt nothing v
 unfolding nothing
@@ -293,8 +290,8 @@ row-past {c} {v} a f h = rw (
     level : levelAt (a .levels) v ≡ pos 0
     level = List·getD-eq-default (a .levels) (pos 0) (omega (arith, f .levels))
 
-    field : (k : ℕ) → k < 10 → getD (a .fields) (v * 10 + k) 0 ≡ 0
-    field k i = List·getD-eq-default (a .fields) 0 (omega (arith, f .fields))
+    field : (k : ℕ) → k < fieldStride → fieldAt (a .fields) v k ≡ 0
+    field = field-past a f h
 
     number : (k : ℕ) → k < 2 → getD (a .numbers) (v * 2 + k) 0 ≡ 0
     number k i = List·getD-eq-default (a .numbers) 0 (omega (arith, f .numbers))
@@ -304,28 +301,43 @@ entry-past {c} {v} a f h i = List·getD-eq-default (a .ancestors) 0 (omega (arit
 
 same-past : {c v : ℕ} (a b : Parts) → Fits c a → Fits c b → c ≤ v → SameRow a b v
 same-past a b f g h =
-    record { row = row-past a f h ∙ sym (row-past b g h); entry = λ i _. entry-past a f h i ∙ sym (entry-past b g h i) }
+    record {
+      row = row-past a f h ∙ sym (row-past b g h);
+      entry = λ i _. entry-past a f h i ∙ sym (entry-past b g h i);
+      root = field-past a f h rootPlace (omega arith) ∙ sym (field-past b g h rootPlace (omega arith));
+    }
+
+-- rows of parts are rows of their tables
+agreed : {a b : Parts} {n v : ℕ} → SameRow a b v → Agree (tableOf a n) (tableOf b n) v
+agreed z = record { row = z .row; entry = z .entry; root = z .root }
 
 -- parts that agree in the rows of a question give it the same outcome
 decided : {c : ℕ} (a b : Parts) → Fits c a → Fits c b → (s : State) (x y : ℕ)
-    → Every (Agree (tableOf a (s .count) (s .root)) (tableOf b (s .count) (s .root))) (rowsRead (tableOf a (s .count) (s .root)) x y)
+    → Every (Agree (tableOf a (s .count)) (tableOf b (s .count))) (rowsRead (tableOf a (s .count)) x y)
     → question b s x y ≡ question a s x y
 unfolding question asked
-decided {c} a b f g s x y h = rw (
-  fits-told f,
-  fits-told g,
-  served-same {t = tableOf a (s .count) (s .root)} {u = tableOf b (s .count) (s .root)} refl (agree none (same-past a b f g (omega (arith, f .most)))) refl x y h,
-)
+decided {c} a b f g s x y h = rw (fits-told f, fits-told g, outcome)
   where
-    agree : (v : ℕ) → SameRow a b v → Agree (tableOf a (s .count) (s .root)) (tableOf b (s .count) (s .root)) v
-    agree v z = record { row = z .row; entry = z .entry }
+    first : ℕ
+    first = entryAt (a .ancestors) x treePlace
 
--- a question draws on at most 25 rows
+    rest : served (tableOf a (s .count)) (fieldAt (a .fields) first rootPlace) x y ≡ served (tableOf b (s .count)) (fieldAt (a .fields) first rootPlace) x y
+    rest = served-same refl (agreed (same-past {v = none} a b f g (omega (arith, f .most)))) (fieldAt (a .fields) first rootPlace) x y (h .1)
+
+    outcome : onSought (soughtIn (a .fields) (a .ancestors) (s .count) x y) (λ r. served (tableOf a (s .count)) r x y)
+        ≡ onSought (soughtIn (b .fields) (b .ancestors) (s .count) x y) (λ r. served (tableOf b (s .count)) r x y)
+    outcome =
+        sought-at (a .fields) (a .ancestors) (s .count) x y onSought (λ r. served (tableOf a (s .count)) r x y) (λ r. served (tableOf b (s .count)) r x y)
+        (λ r e. e) refl refl rest
+        ∙ ap (λ k. onSought k (λ r. served (tableOf b (s .count)) r x y))
+        (sought-same (a .fields) (b .fields) (a .ancestors) (b .ancestors) (s .count) x y (h .1 .0 .entry treePlace (omega arith)) (h .1 .1 .0 .entry treePlace (omega arith)) (h .0 .root))
+
+-- a question draws on at most 26 rows
 pub question-few-rows : {c : ℕ} (a : Parts) → Fits c a → (s : State) (x y : ℕ) → DrawsOn most c a s x y
 question-few-rows {c} a f s x y = record { rows = rows; few = omega arith; decide = decide }
   where
     t : Parts → Table
-    t b = tableOf b (s .count) (s .root)
+    t b = tableOf b (s .count)
 
     rows : List ℕ
     rows = rowsRead (t a) x y
@@ -335,6 +347,6 @@ question-few-rows {c} a f s x y = record { rows = rows; few = omega arith; decid
       where
         agree : (i : ℕ) → i < length rows → Agree (t a) (t b) (getD rows i 0)
         agree i j = elim (decLt (getD rows i 0) c) [
-          | yes k ↦ record { row = h i j k .row; entry = h i j k .entry }
-          | no k ↦ let z = same-past {v = getD rows i 0} a b f g (omega arith) in record { row = z .row; entry = z .entry }
+          | yes k ↦ agreed (h i j k)
+          | no k ↦ agreed (same-past {v = getD rows i 0} a b f g (omega arith))
         ]

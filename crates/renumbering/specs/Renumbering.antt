@@ -12,7 +12,7 @@ use Rattle.growth_laws.specs.Trees.{OwnTrees}
 use Rattle.renumbering.specs.Sizes.{Sizing, closed, sizeVisit, sizePass}
 use Rattle.renumbering.specs.Numbers.{Numbers, headPlaced, numbered, numberPass}
 
--- the links that a walk in order of arrival goes by
+-- the links that a walk in the order of the child links goes by
 abbrev pub linksOf : Table → Links
 linksOf m = record { parent = parent m; first = λ x. m .row x .first; next = λ x. m .row x .next }
 
@@ -28,7 +28,6 @@ numbersOf m sizes = record { upper = upper m; size = sizes; setSize = setSize m;
 abbrev pub withColumns : Table → (ℕ → ℕ) → Numbers → Table
 withColumns m paths c = record {
   count = m .count;
-  root = m .root;
   row = λ x. record {
     parent = m .row x .parent;
     first = m .row x .first;
@@ -45,6 +44,7 @@ withColumns m paths c = record {
     level = m .row x .level;
   };
   entry = c .entry;
+  root = m .root;
 }
 
 -- the head h and the rows f below it, by recursion on them
@@ -61,7 +61,7 @@ renumberWalk m h =
     let c : Numbers = headPlaced h (numbersOf m (s .size)) in
     withColumns m (s .path) (run k (onEntry (numbered (parent m) (s .path))) (2 * rows m h - 2) (move k (down h)) c)
 
--- what a renumbering needs: the trees of m are well shaped, child links list the children in order of arrival, and h is an apex
+-- what a renumbering needs: the trees of m are well shaped, child links list the children, and h is an apex
 pub record Renumberable (m : Table) (h : ℕ) : Type 0 where
   pub trees : OwnTrees m
   pub children : Each m (ChildLinks m)

@@ -32,8 +32,12 @@ depthPlace = 8
 abbrev pub labelPlace : ℕ
 labelPlace = 9
 
+-- the root that the first row of a tree records; in other rows it says nothing
+abbrev pub rootPlace : ℕ
+rootPlace = 10
+
 abbrev pub fieldStride : ℕ
-fieldStride = 10
+fieldStride = 11
 
 -- 64-bit numbers of a row in `numbers`
 abbrev pub startPlace : ℕ

@@ -1,8 +1,17 @@
--- The plain tree that a table records (01, "Images and plain tree"): the stored tree hung up at the root.
+-- The plain trees that a table records (01, "Images and plain tree"): each stored tree rooted at its root.
 use Prim.Native.Nat.{ℕ}
 use Rattle.tree_laws.specs.Reroot.{plainParent}
+use Rattle.tree_laws.specs.Top.{topOf}
 use Rattle.rows.specs.Table.{Table, parent, depth}
 
--- the plain parent of a row: none for the root; on the line from node 0 to the root, the next row towards the root; elsewhere the stored parent
+-- the first row of the stored tree of x
+abbrev pub first : Table → ℕ → ℕ
+first t = topOf (parent t) (depth t)
+
+-- the root of the tree of x
+abbrev pub root : Table → ℕ → ℕ
+root t x = t .root (first t x)
+
+-- the plain parent of a row: none for a root; on the line from the first row to the root, the next row towards it; elsewhere the stored parent
 abbrev pub plain : Table → ℕ → ℕ
-plain t = plainParent (parent t) (depth t) (t .root)
+plain t x = plainParent (parent t) (depth t) (root t x) x

@@ -1,19 +1,20 @@
--- A table by meaning: count, root and the rows. The rules and the theorems speak of this and know no layout.
+-- A table by meaning: count, rows, ancestor entries and recorded roots. The rules and the theorems speak of this and know no layout.
 use Prim.Native.Nat.{ℕ}
 use lib.IntN.{ℤ}
 use Rattle.rows.specs.declared.row.Row.{Row}
-use Rattle.rows.specs.Row.{Parts, rowAt, entryAt}
+use Rattle.rows.specs.Layout.{rootPlace}
+use Rattle.rows.specs.Row.{Parts, rowAt, entryAt, fieldAt}
 
--- rows below the count are in use; the root is the paper's source
+-- rows below the count are in use; several trees may stand in them, and the first row of each records its root, the root of its plain tree
 pub record Table : Type 0 where
   pub count : ℕ
-  pub root : ℕ
   pub row : ℕ → Row
   pub entry : ℕ → ℕ → ℕ
+  pub root : ℕ → ℕ
 
--- the table that lent parts, a count and a root stand for
-abbrev pub tableOf : Parts → ℕ → ℕ → Table
-tableOf t n r = record { count = n; root = r; row = rowAt t; entry = entryAt (t .ancestors) }
+-- the table that lent parts and a count stand for
+abbrev pub tableOf : Parts → ℕ → Table
+tableOf t n = record { count = n; row = rowAt t; entry = entryAt (t .ancestors); root = λ x. fieldAt (t .fields) x rootPlace }
 
 -- the columns of a table, as functions of the row
 abbrev pub parent : Table → ℕ → ℕ

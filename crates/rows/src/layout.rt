@@ -23,7 +23,10 @@ pub const DEPTH: u16 = 8;
 
 pub const LABEL: u16 = 9;
 
-pub const FIELDS: usize = 10;
+// The root that a tree's first row records; in other rows it says nothing.
+pub const ROOT: u16 = 10;
+
+pub const FIELDS: usize = 11;
 
 // Labels of rows off the line from node 0 to the root go from 1 to this one.
 pub const LARGEST_LABEL: u16 = 9999;
@@ -37,3 +40,6 @@ pub const NUMBERS: usize = 2;
 
 // Ancestor entries of a row in `ancestors`.
 pub const ENTRIES: usize = 122;
+
+// The last of them, which is the first row of the row's tree.
+pub const TREE: u16 = 121;

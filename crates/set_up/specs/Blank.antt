@@ -1,6 +1,7 @@
 -- Set-up (01: "Set-up makes count 0, source and links none, other numbers 0").
+use mathlib.Core.Bool.{_||_}
 use Prim.Native.Nat.{ℕ, _%_}
-use lib.Dec.{ltb}
+use lib.Dec.{ltb, eqb}
 use lib.IntN.{pos}
 use lib.ListN.{length}
 use Rattle.laws.specs.Test.{pick}
@@ -8,16 +9,16 @@ use Rattle.laws.specs.Tabulate.{tabulate}
 use Rattle.tree_laws.specs.Ancestor.{none}
 use Rattle.rows.specs.declared.capacity.Fit.{Fit}
 use Rattle.rows.specs.declared.capacity.Fit.the-variants.{Capacity, Misfit}
-use Rattle.rows.specs.Layout.{fieldStride, sizePlace}
+use Rattle.rows.specs.Layout.{fieldStride, sizePlace, rootPlace}
 use Rattle.rows.specs.Row.{Parts}
 use Rattle.rows.specs.Capacity.{capacityOf}
 use Rattle.rows.specs.declared.refusal.Refusal.the-variants as refusal
 use Rattle.set_up.specs.declared.Made.{Made}
 use Rattle.set_up.specs.declared.Made.the-variants.{Empty, Refused}
 
--- the fields before the size are links
+-- the fields before the size are links, and so is the root
 abbrev pub blankField : ℕ → ℕ
-blankField i = pick (ltb (i % fieldStride) sizePlace) none 0
+blankField i = pick (ltb (i % fieldStride) sizePlace || eqb (i % fieldStride) rootPlace) none 0
 
 -- parts of the same lengths with nothing in them
 unfoldable pub blank : Parts → Parts
@@ -30,7 +31,7 @@ blank t = record {
 
 -- what set-up answers, by what the parts fit
 abbrev pub made : Fit → Made
-made (Capacity c) = Empty (record { count = 0; root = none })
+made (Capacity c) = Empty (record { count = 0 })
 made Misfit = Refused refusal.Misfit
 
 unfoldable pub setUp : Parts → Made

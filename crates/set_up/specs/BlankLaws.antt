@@ -27,33 +27,32 @@ set-up-misfit t f e m = (ap made (sym m ∙ e), ap (λ (k : Fit). leaves k t) (s
 pub set-up-fits : (t : Parts) (c : ℕ) (f : Fit) {fields numbers : List ℕ} {levels : List ℤ} {ancestors : List ℕ} → f ≡ capacityOf t → f ≡ Capacity c
     → fields ≡ tabulate blankField (length (t .fields)) → numbers ≡ tabulate (λ _. 0) (length (t .numbers))
     → levels ≡ tabulate (λ _. pos 0) (length (t .levels)) → ancestors ≡ tabulate (λ _. none) (length (t .ancestors))
-    → (Empty (record { count = 0; root = none }) ≡ setUp t) × (partsOf fields numbers levels ancestors ≡ partsAfter t)
+    → (Empty (record { count = 0 }) ≡ setUp t) × (partsOf fields numbers levels ancestors ≡ partsAfter t)
 unfolding setUp partsAfter blank
 set-up-fits t c f e m a b l d = (ap made (sym m ∙ e), (rw (a, b, l, d) refl) ∙ ap (λ (k : Fit). leaves k t) (sym m ∙ e))
 
 -- parts that fit are never refused
-pub set-up-served : (t : Parts) (c : ℕ) → Fits c t → setUp t ≡ Empty (record { count = 0; root = none })
+pub set-up-served : (t : Parts) (c : ℕ) → Fits c t → setUp t ≡ Empty (record { count = 0 })
 unfolding setUp
 set-up-served t c f = ap made (sym (capacity-fits t (rw (← f .levels) at f)))
 
 -- an empty table passes inspection
-pub empty-rules : (capacity : ℕ) (t : Table) → t .count ≡ 0 → t .root ≡ none → Rules capacity t
-empty-rules capacity t e r = record {
+pub empty-rules : (capacity : ℕ) (t : Table) → t .count ≡ 0 → Rules capacity t
+empty-rules capacity t e = record {
   one = record {
     count = omega arith;
-    noRoot = λ _. r;
-    root = λ h. absurd (omega arith);
-    first = λ h. absurd (omega arith);
-    smaller = λ x l. none-in-use x l;
+    inside = λ x l. none-in-use x l;
     depth = λ x l. none-in-use x l;
-    level = λ x l. none-in-use x l;
     children = λ x l. none-in-use x l;
-    label = λ x l. none-in-use x l;
+    root = λ x l. none-in-use x l;
+    level = λ x l. none-in-use x l;
+    labelMost = λ x l. none-in-use x l;
+    labelRoot = λ x l. none-in-use x l;
   };
   two = record { path = λ x l. none-in-use x l; upper = λ x l. none-in-use x l; size = λ x l. none-in-use x l };
   three = λ x l. none-in-use x l;
   four = λ x l. none-in-use x l;
-  five = record { apart = λ x l. none-in-use x l; inside = λ x l. none-in-use x l; room = λ x l. none-in-use x l; dense = λ x l. none-in-use x l; first = λ h. absurd (omega arith) };
+  five = record { apart = λ x l. none-in-use x l; inside = λ x l. none-in-use x l; room = λ x l. none-in-use x l; dense = λ x l. none-in-use x l; first = λ x l. none-in-use x l };
   six = λ x l. none-in-use x l;
 }
   where

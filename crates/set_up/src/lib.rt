@@ -2,6 +2,7 @@
 use rows::capacity::Fit;
 use rows::layout::FIELDS;
 use rows::layout::NONE;
+use rows::layout::ROOT;
 use rows::layout::SIZE;
 use rows::refusal::Refusal;
 use rows::state::State;
@@ -17,11 +18,18 @@ pub enum Made {
     Refused(Refusal),
 }
 
-// What place i of the fields holds in an empty table: links none, other numbers 0.
+// What place i of the fields holds in an empty table: links and root none, other numbers 0.
 fn blank_field(i: usize) -> u16
     ensures { λ r. ⌜ r ≡ blankField i ⌝ }
 {
-    if i % FIELDS < SIZE as usize { NONE } else { 0 }
+    let k = i % FIELDS;
+    if k < SIZE as usize {
+        return NONE;
+    }
+    if k == ROOT as usize {
+        return NONE;
+    }
+    0
 }
 
 fn clear_fields(fields: &mut [u16])
@@ -64,7 +72,7 @@ fn clear_ancestors(ancestors: &mut [u16])
     }
 }
 
-// Count 0, root and links none, other numbers 0; refused only where the parts do not fit one capacity.
+// Count 0, roots and links none, other numbers 0; refused only where the parts do not fit one capacity.
 pub fn set_up(
     fields: &mut [u16],
     numbers: &mut [u64],
@@ -81,10 +89,7 @@ pub fn set_up(
             clear_numbers(numbers);
             clear_levels(levels);
             clear_ancestors(ancestors);
-            Made::Empty(State {
-                count: 0,
-                root: NONE,
-            })
+            Made::Empty(State { count: 0 })
         }
     }
 }

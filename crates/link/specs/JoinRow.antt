@@ -1,0 +1,39 @@
+-- The joins of a link in the lent parts: a row that stands alone comes under the row that its root field names.
+use mathlib.Core.List.{List, [], _∷_}
+use Prim.Native.Nat.{ℕ, _+_}
+use lib.Dec.{eqb}
+use lib.IntN.{pos, _+ℤ_}
+use Rattle.laws.specs.Test.{pick}
+use Rattle.tree_laws.specs.Ancestor.{none}
+use Rattle.rows.specs.Layout.{labelPlace, rootPlace}
+use Rattle.rows.specs.Row.{Parts, fieldAt, levelAt}
+use Rattle.growth.specs.declared.plan.Planned.{Planned}
+use Rattle.growth.specs.declared.plan.Planned.the-variants.{Grow, Start, Refuse}
+use Rattle.growth.specs.Level.{levelOf, onLevel}
+use Rattle.growth.specs.Plan.{plannedRow}
+use Rattle.growth.specs.Store.{Stored, stored, storedBy}
+
+-- what was planned: the stores, or nothing
+unfoldable pub storedAs : Parts → ℕ → Planned → Stored
+storedAs p n (Grow g) = storedBy p n g
+storedAs p n (Start k) = stored p 0
+storedAs p n (Refuse r) = stored p 0
+
+-- row z under v, of this label, one level below v
+unfoldable pub joinedUnder : Parts → ℕ → ℕ → ℕ → ℕ → Stored
+joinedUnder p n z v label =
+    onLevel (levelOf (levelAt (p .levels) v +ℤ pos 1))
+    (λ level. storedAs p n (plannedRow (p .fields) (p .numbers) (p .levels) n z v level label none))
+    (stored p 0)
+
+-- row z of a tree whose root x is linked at a door
+unfoldable pub joinRow : Parts → ℕ → ℕ → ℕ → ℕ → Stored
+joinRow p n x door z = joinedUnder p n z (fieldAt (p .fields) z rootPlace) (pick (eqb z x) door (fieldAt (p .fields) z labelPlace))
+
+-- the rows of a list, one after another, and the rows renumbered, added up
+unfoldable pub joinAll : Parts → ℕ → ℕ → ℕ → List ℕ → Stored
+joinAll p n x door [] = stored p 0
+joinAll p n x door (z ∷ zs) =
+    let o : Stored = joinRow p n x door z in
+    let rest : Stored = joinAll (o .parts) n x door zs in
+    stored (rest .parts) (o .given + rest .given)

@@ -1,0 +1,119 @@
+-- A link keeps the rules of inspection, is the plain list's step, and pays for itself.
+use mathlib.Core.Path.{_≡_, refl, ap, sym, _∙_}
+use mathlib.Core.Logic.{_⊎_, inl, inr, _≢_}
+use Prim.Native.Nat.{ℕ, _+_, _*_, _≤_, _<_}
+use native.Mathlib.Decide.{ℕ-discrete}
+use native.Mathlib.Omega.{arith}
+use lib.Dec.{eqb}
+use lib.ListN.{length}
+use Rattle.laws.specs.Test.{pick, says-true, says-false, says-eqb}
+use Rattle.tree_laws.specs.Ancestor.{none, Anc, here, there, Forest}
+use Rattle.tree_laws.specs.AncestorLaws.{row-some, anc-in}
+use Rattle.tree_laws.specs.Top.{top-first, top-is, top-anc}
+use Rattle.rows.specs.Capacity.{capacityLimit}
+use Rattle.rows.specs.Table.{Table, parent, depth, label, level}
+use Rattle.rows.specs.PlainTree.{first, root, plain}
+use Rattle.rows.specs.StoredTree.{labelLimit}
+use Rattle.rows.specs.Rules.{Recorded, Rules, Numbered, numbered, rules-of}
+use Rattle.growth_laws.specs.Below.{JoinedLeaf, Grows, grows-recorded, plain-old, plain-joined}
+use Rattle.growth_laws.specs.Joined.{SameNode}
+use Rattle.growth_laws.specs.Lag.{lag, worth, perJoin, Paid}
+use Rattle.growth_laws.specs.LoneLaws.{parted-numbered, parted-lag}
+use Rattle.growth_laws.specs.Older.{Older}
+use Rattle.growth_laws.specs.Trees.{own-trees, stored}
+use Rattle.link_laws.specs.Joinings.{Joinings}
+use Rattle.link_laws.specs.JoiningsLaws.{joinings-numbered, joinings-pay, joinings-count, joinings-rest, Came, joinings-came}
+use Rattle.link_laws.specs.Link.{isOfTree, target, labelled, Linkable, Order, Linked, PlainLink}
+
+module _ {capacity : ℕ} {t d : Table} {x v door k : ℕ} (r : Rules capacity t) (small : capacity ≤ capacityLimit) (q : Linked t d x v door k) where
+  apart-numbered : Numbered (q .apart)
+  apart-numbered = parted-numbered (numbered r small) (q .parted)
+
+  pub link-numbered : Numbered d
+  link-numbered = joinings-numbered apart-numbered (q .joins)
+
+  count-is : d .count ≡ t .count
+  count-is = joinings-count (q .joins) ∙ q .count
+
+  was : Forest (parent t) (depth t) (t .count)
+  was = stored (own-trees (numbered r small))
+
+  -- the rows of the other trees
+  record Stays (w : ℕ) : Type 0 where
+    inside : w < t .count
+    other : first t w ≢ first t x
+
+  rest : {w : ℕ} → Stays w → SameNode (q .apart) d w
+  rest {w} p = joinings-rest (q .joins) w (omega (arith, q .count, p .inside)) (λ m. p .other (q .ordered .moved w m))
+
+  parent-rest : {w : ℕ} → Stays w → parent d w ≡ parent t w
+  parent-rest {w} p = rest p .sameParent ∙ q .parted .kept w (p .inside) (says-false (says-eqb (first t w) (first t x)) (p .other)) .sameParent
+
+  stays-up : {a w : ℕ} → Stays w → Anc (parent t) a w → Stays a
+  stays-up {a} {w} p h = record { inside = anc-in was (p .inside) h; other = λ e. p .other (sym (top-anc was (p .inside) h) ∙ e) }
+
+  came : {w : ℕ} → w < t .count → first t w ≡ first t x → Came (target t x v) (labelled t x door) d w
+  came {w} l e = joinings-came (q .joins) (q .ordered .once) (q .ordered .before) w (q .ordered .all w l e)
+
+  -- a row of the linked tree joined as a leaf
+  label-most : {w : ℕ} → w < t .count → labelled t x door w ≤ labelLimit
+  label-most {w} l = elim (ℕ-discrete w x) [
+    | yes e ↦ rw (says-true (says-eqb w x) e) (q .linkable .most)
+    | no n ↦ rw (says-false (says-eqb w x) n) (r .one .labelMost w l)
+  ]
+
+  moved : {w : ℕ} → w < t .count → first t w ≡ first t x → JoinedLeaf d w
+  moved {w} l e =
+      let c = came l e in
+      record {
+        some = row-some (stored (own-trees link-numbered)) (c .inUse) (c .under);
+        below = rw (c .under) (c .level);
+        labelled = rw (c .label) (label-most l);
+      }
+
+  -- the first row of a tree, and its root, stand in that tree
+  first-own : {f : ℕ} → f < t .count → parent t f ≡ none → first t f ≡ f
+  first-own l e = top-is was l record { over = here; top = e }
+
+  first-root : {f : ℕ} → f < t .count → parent t f ≡ none → first t (t .root f) ≡ f
+  first-root {f} l e = let s = r .one .root f l e in top-is was (s .inUse) record { over = s .over; top = e }
+
+  grows : Grows t d Stays
+  grows = record {
+    more = omega (arith, count-is);
+    older = record { inside = λ w p. p .inside; above = λ w p h. stays-up p (there h here); same = λ w p. parent-rest p };
+    either = λ w l. let i : w < t .count = omega (arith, count-is) in elim (ℕ-discrete (first t w) (first t x)) [
+      | yes e ↦ inr (λ p. p .other e, moved i e)
+      | no n ↦ inl record { inside = i; other = n }
+    ];
+    sameLevel = λ w p. rest p .sameLevel ∙ q .levels w (p .inside) (p .other);
+    sameLabel = λ w p. rest p .sameLabel ∙ q .labels w (p .inside);
+    sameRoot = λ f p e. q .roots f (p .inside) (p .other);
+    rootKept = λ f p e. record {
+      inside = r .one .root f (p .inside) e .inUse;
+      other = λ z. p .other (first-own (p .inside) e ∙ sym (first-root (p .inside) e) ∙ z);
+    };
+  }
+
+  pub link-keeps-rules : Rules capacity d
+  link-keeps-rules = rules-of (grows-recorded r small link-numbered grows (omega (arith, count-is, r .one .count))) link-numbered
+
+  pub link-plain : PlainLink t d x v door
+  link-plain = record {
+    count = count-is;
+    parents = λ w l. elim (ℕ-discrete (first t w) (first t x)) [
+      | yes e ↦ plain-joined r small link-numbered grows w (omega (arith, count-is)) (λ p. p .other e) ∙ came l e .under
+      | no n ↦ plain-old r small link-numbered grows w record { inside = l; other = n } ∙ (rw (says-false (says-eqb w x) (λ z. n (ap (first t) z))) refl)
+    ];
+    labels = λ w l. elim (ℕ-discrete (first t w) (first t x)) [
+      | yes e ↦ came l e .label
+      | no n ↦ rest record { inside = l; other = n } .sameLabel ∙ q .labels w l ∙ (rw (says-false (says-eqb w x) (λ z. n (ap (first t) z))) refl)
+    ];
+  }
+
+  -- the rows renumbered are paid for by the lag and 120 for each row that joined
+  pub link-pays : worth * lag d + k ≤ worth * lag t + perJoin * length (q .order)
+  link-pays = omega (arith, joinings-pay apart-numbered (q .joins), parted-lag (numbered r small) (q .parted))
+
+  pub total-kept : (total joinings : ℕ) → Paid t total joinings → Paid d (total + k) (joinings + length (q .order))
+  total-kept total joinings p = omega (arith, link-pays)

@@ -1,0 +1,41 @@
+// The tree that a question is asked in, by the last ancestor entries of its nodes and the root that the tree's first row records.
+use rows::layout::NONE;
+use rows::tree::root_of;
+use rows::tree::tree_of;
+ghost use mathlib.Core.Path.{_≡_};
+ghost use Rattle.query.specs.Sought.{soughtIn};
+
+// The count of a table, and the root of one of its trees.
+pub struct Seen {
+    pub count: u16,
+    pub root: u16,
+}
+
+// The root of a tree; or no tree, since the nodes stand in different ones; or none found, where a number read is no row in use.
+pub enum Sought {
+    Root(u16),
+    Other,
+    Lost,
+}
+
+// The root of the tree that x and y share.
+pub fn seek(fields: &[u16], ancestors: &[u16], count: u16, x: u16, y: u16) -> Sought
+    ensures { λ r. ⌜ r ≡ soughtIn (now (fields .entry)) (now (ancestors .entry)) count x y ⌝ }
+{
+    let f = tree_of(ancestors, count, x);
+    if f == NONE {
+        return Sought::Lost;
+    }
+    let g = tree_of(ancestors, count, y);
+    if g == NONE {
+        return Sought::Lost;
+    }
+    if f != g {
+        return Sought::Other;
+    }
+    let r = root_of(fields, count, f);
+    if r == NONE {
+        return Sought::Lost;
+    }
+    Sought::Root(r)
+}
