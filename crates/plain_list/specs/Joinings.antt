@@ -7,7 +7,7 @@ use native.Mathlib.Omega.{arith}
 use Rattle.tree_laws.specs.Ancestor.{none}
 use Rattle.plain_list.specs.PlainList.{PlainList, emptyList, countOf}
 use Rattle.plain_list.specs.PlainListLaws.{node-count, root-count}
-use Rattle.plain_list.specs.PlainStep.{PlainCall, PlainReply, linked, PlainOutcome, rootIn, plainOutcome, plainAfter, plainRun}
+use Rattle.plain_list.specs.PlainStep.{PlainCall, PlainReply, linked, PlainOutcome, rootIn, plainAfter, plainRun}
 use Rattle.plain_list.specs.PlainStepLaws.{Does, nothing, adds-first, adds-leaf, adds-root, adds-over, joins, call-does}
 
 -- no reply says that a tree was linked

@@ -1,5 +1,5 @@
 -- Parents and labels that are the plain list's: what they answer, the plain list answers.
-use mathlib.Core.Path.{_≡_, refl, sym, ap, _∙_}
+use mathlib.Core.Path.{_≡_, sym, ap, _∙_}
 use mathlib.Core.Bool.{Bool}
 use mathlib.Core.Logic.{_≢_}
 use Prim.Native.Nat.{ℕ, _<_}
@@ -7,7 +7,7 @@ use native.Mathlib.Decide.{ℕ-discrete}
 use native.Mathlib.Omega.{arith}
 use Rattle.laws.specs.Test.{Says, says-eq, bit}
 use Rattle.tree_laws.specs.Ancestor.{none, Forest}
-use Rattle.tree_laws.specs.AncestorLaws.{root-one, trans, anc-in}
+use Rattle.tree_laws.specs.AncestorLaws.{trans, anc-in}
 use Rattle.tree_laws.specs.Nca.{Kindred}
 use Rattle.tree_laws.specs.Top.{first-one}
 use Rattle.rows.specs.Answer.{Answer, Answers, SameLabels}
