@@ -32,7 +32,8 @@ use Rattle.growth_exact.specs.LoneExact.{lone-fits, stands-alone, stays, lone-m
 use Rattle.growth_laws.specs.Lone.{Lone, Kept, Parted}
 use Rattle.numbering.specs.Numbered.{shape, storedTree}
 use Rattle.numbering.specs.TreeEntry.{entry-first}
-use Rattle.link_laws.specs.Link.{isOfTree, target, Linkable}
+use Rattle.link_laws.specs.Link.{target, Linkable}
+use Rattle.link_laws.specs.Order.{isOfTree}
 use Rattle.link_exact.specs.LinkExact.{Detached}
 use Rattle.link.specs.Detach.{keptParents, turnedLine, lonely, partedRows, turnedFields, detached}
 
@@ -87,7 +88,7 @@ record Turns (c : ℕ) (up : ℕ → ℕ) (k z under : ℕ) (col : ℕ → ℕ) 
 module _ {c n : ℕ} {up rank : ℕ → ℕ} (t : Forest up rank n) (room : n ≤ c) where
   turns : (k : ℕ) (f : List ℕ) (col : ℕ → ℕ) (z under : ℕ) → z < n → Holds fieldStride c f → ((y : ℕ) → y < n → fieldAt f y parentPlace ≡ up y)
       → ((y : ℕ) → fieldAt f y rootPlace ≡ col y) → Turns c up k z under col f (turnedLine k f z under)
-  unfolding turnedLine put
+  unfolding turnedLine
   turns zero f col z under l h u s = record {
     holds = holds-set h _ _;
     rest = λ y j i d. set-other h z rootPlace under (omega arith) y j i d;
@@ -100,7 +101,7 @@ module _ {c n : ℕ} {up rank : ℕ → ℕ} (t : Forest up rank n) (room : n �
       root = λ y. rw (says-true (says-eqb (up z) none) e) (set-same h z rootPlace under (omega arith) (omega arith) col y (s y));
     }
     | no d ↦
-        let q = turns k (withField f z rootPlace under) (λ y. pick (eqb y z) under (col y)) (up z) z (t .inside z l d) (holds-set h _ _)
+        let q = turns k (withField f z rootPlace under) (put col z under) (up z) z (t .inside z l d) (holds-set h _ _)
         (λ y i. set-other h z rootPlace under (omega arith) y parentPlace (omega arith) (λ e. omega arith) ∙ u y i)
         (λ y. set-same h z rootPlace under (omega arith) (omega arith) col y (s y)) in
         rw (u z l, says-false (says-eqb (up z) none) d) record {
@@ -161,7 +162,7 @@ kept-same = record {
 }
 
 -- the m rows from w on have been looked at: those of the tree stand alone, the others are as they were; labels, levels and roots stay
-record Parts2 (c n tree m w : ℕ) (p q : Parts) : Type 0 where
+record PartedTo (c n tree m w : ℕ) (p q : Parts) : Type 0 where
   fit : Fits c q
   levels : q .levels ≡ p .levels
   marks : (y j : ℕ) → (j ≡ labelPlace) ⊎ (j ≡ rootPlace) → fieldAt (q .fields) y j ≡ fieldAt (p .fields) y j
@@ -169,7 +170,7 @@ record Parts2 (c n tree m w : ℕ) (p q : Parts) : Type 0 where
   low : (y : ℕ) → y < w → Kept (tableOf p n) (tableOf q n) y
   off : (y : ℕ) → entryAt (p .ancestors) y treePlace ≢ tree → Kept (tableOf p n) (tableOf q n) y
 
-parts-alone : (c n tree m w : ℕ) (p : Parts) → w + m ≤ c → Fits c p → Parts2 c n tree m w p (partedRows tree m w p)
+parts-alone : (c n tree m w : ℕ) (p : Parts) → w + m ≤ c → Fits c p → PartedTo c n tree m w p (partedRows tree m w p)
 unfolding partedRows
 parts-alone c n tree zero w p l f = record {
   fit = f;
@@ -244,7 +245,7 @@ module _ {c : ℕ} {p : Parts} {n x v door : ℕ} (r : Rules c (tableOf p n)) (f
   fit₂ : Fits c p₂
   fit₂ = record { least = fit .least; most = fit .most; levels = fit .levels; fields = k₂ .holds .long; numbers = fit .numbers; ancestors = fit .ancestors }
 
-  k₃ : Parts2 c n tree n 0 p₂ (partedRows tree n 0 p₂)
+  k₃ : PartedTo c n tree n 0 p₂ (partedRows tree n 0 p₂)
   k₃ = parts-alone c n tree n 0 p₂ (omega (arith, room)) fit₂
 
   same : (y j : ℕ) → j < fieldStride → j ≢ rootPlace → fieldAt (turnedLine n f₁ x v) y j ≡ fieldAt (p .fields) y j
