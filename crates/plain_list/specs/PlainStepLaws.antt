@@ -1,5 +1,5 @@
 -- What a call does to the plain list: it changes nothing, adds a node where there is room, or links a tree.
-use mathlib.Core.Path.{_≡_, refl}
+use mathlib.Core.Path.{_≡_, refl, sym}
 use mathlib.Core.Bool.{Bool}
 use mathlib.Core.Logic.{_≢_}
 use Prim.Native.Nat.{ℕ, _≤_, _<_}
@@ -8,6 +8,7 @@ use borrow.Author.Tests.{lt-ltb, le-ltb, le-leb, eq-eqb, ne-eqb}
 use Rattle.laws.specs.Test.{Says, holds, fails, says-false, says-not, says-and, says-eqb, says-ltb, says-leb, pick, bit}
 use Rattle.tree_laws.specs.Ancestor.{none}
 use Rattle.rows.specs.StoredTree.{labelLimit}
+use Rattle.rows.specs.Answer.{Answer}
 use Rattle.plain_list.specs.PlainList.{PlainList, countOf, parentOf, labelOf, withFirst, withLeaf, withRoot, withLink}
 use Rattle.plain_list.specs.Naive.{naiveAnswer, naiveSame}
 use Rattle.plain_list.specs.PlainStep.{PlainCall, first, leaf, root, rootOver, link, question, alike, inspection}
@@ -184,31 +185,49 @@ module _ (capacity : ℕ) (p : PlainList) (x v door s : ℕ) where
 -- All calls
 
 -- the outcome of a call on p: nothing changed, a first node, a leaf, a new root over that of node 0's tree or over a named one, a link
-pub data Does (capacity : ℕ) (p : PlainList) : PlainOutcome → Type 0 where
-  nothing : {r : PlainReply} → Does capacity p (replies r p)
-  adds-first : countOf p ≢ capacity → Does capacity p (grows p (withFirst p))
-  adds-leaf : {v l : ℕ} → v < countOf p → 1 ≤ l → l ≤ labelLimit → countOf p ≢ capacity → Does capacity p (grows p (withLeaf p v l))
-  adds-root : countOf p ≢ 0 → countOf p ≢ capacity → Does capacity p (grows p (withRoot p (rootIn p 0)))
-  adds-over : {r : ℕ} → r < countOf p → parentOf p r ≡ none → countOf p ≢ capacity → Does capacity p (grows p (withRoot p r))
-  joins : {x v door : ℕ} → x < countOf p → v < countOf p → 1 ≤ door → door ≤ labelLimit → parentOf p x ≡ none → rootIn p v ≢ x
-      → Does capacity p (record { reply = linked; after = withLink p x v door; joined = treeCount p x })
+pub data Does (capacity : ℕ) (p : PlainList) : PlainCall → PlainOutcome → Type 0 where
+  nothing : {q : PlainCall} {r : PlainReply} → r ≢ linked → Does capacity p q (replies r p)
+  adds-first : {q : PlainCall} → countOf p ≢ capacity → Does capacity p q (grows p (withFirst p))
+  adds-leaf : {q : PlainCall} {v l : ℕ} → v < countOf p → 1 ≤ l → l ≤ labelLimit → countOf p ≢ capacity → Does capacity p q (grows p (withLeaf p v l))
+  adds-root : {q : PlainCall} → countOf p ≢ 0 → countOf p ≢ capacity → Does capacity p q (grows p (withRoot p (rootIn p 0)))
+  adds-over : {q : PlainCall} {r : ℕ} → r < countOf p → parentOf p r ≡ none → countOf p ≢ capacity → Does capacity p q (grows p (withRoot p r))
+  joins : {x v door s : ℕ} → x < countOf p → v < countOf p → 1 ≤ door → door ≤ labelLimit → parentOf p x ≡ none → rootIn p v ≢ x
+      → Does capacity p (link x v door s) (record { reply = linked; after = withLink p x v door; joined = treeCount p x })
+
+-- a reply that does not say that a tree was linked
+refused-unlinked : (n : ℕ) → refused n ≢ linked
+refused-unlinked n e = let z : _≡_ {A = ℕ} 0 1 = cc in omega arith
+
+pub node-unlinked : (n : ℕ) → node n ≢ linked
+node-unlinked n e = let z : _≡_ {A = ℕ} 0 1 = cc in omega arith
+
+answered-unlinked : (a : Answer) → answered a ≢ linked
+answered-unlinked a e = let z : _≡_ {A = ℕ} 0 1 = cc in omega arith
+
+same-unlinked : (b : ℕ) → same b ≢ linked
+same-unlinked b e = let z : _≡_ {A = ℕ} 0 1 = cc in omega arith
+
+passes-unlinked : passes ≢ linked
+passes-unlinked e = let z : _≡_ {A = ℕ} 0 1 = cc in omega arith
 
 module _ (capacity : ℕ) (p : PlainList) where
-  checked : {A : Type 0} {b : Bool} {o : PlainOutcome} (n : ℕ) → Says A b → (A → Does capacity p o) → Does capacity p (unless b n p o)
+  checked : {A : Type 0} {b : Bool} {q : PlainCall} {o : PlainOutcome} (n : ℕ) → Says A b → (A → Does capacity p q o)
+      → Does capacity p q (unless b n p o)
   checked n (holds a) f = f a
-  checked n (fails d) f = nothing
+  checked n (fails d) f = nothing (refused-unlinked n)
 
-  either : {A : Type 0} {b : Bool} {o u : PlainOutcome} → Says A b → (A → Does capacity p o) → ((A → ⊥) → Does capacity p u) → Does capacity p (pick b o u)
+  either : {A : Type 0} {b : Bool} {q : PlainCall} {o u : PlainOutcome} → Says A b → (A → Does capacity p q o) → ((A → ⊥) → Does capacity p q u)
+      → Does capacity p q (pick b o u)
   either (holds a) f g = f a
   either (fails d) f g = g d
 
-  asks : (x y : ℕ) (r : PlainReply) → Does capacity p (asked p x y r)
-  asks x y r = checked 1 (says-bothKnown p x y) (λ _. checked 12 (says-eqb (rootIn p x) (rootIn p y)) (λ _. nothing))
+  asks : {q : PlainCall} (x y : ℕ) (r : PlainReply) → r ≢ linked → Does capacity p q (asked p x y r)
+  asks x y r d = checked 1 (says-bothKnown p x y) (λ _. checked 12 (says-eqb (rootIn p x) (rootIn p y)) (λ _. nothing d))
 
   room : Says (countOf p ≢ capacity) (hasRoom capacity p)
   room = says-not (says-eqb (countOf p) capacity)
 
-  pub call-does : (q : PlainCall) → Does capacity p (plainOutcome capacity p q)
+  pub call-does : (q : PlainCall) → Does capacity p q (plainOutcome capacity p q)
   unfolding plainOutcome
   call-does (first s) = checked 3 (says-eqb s capacity) (λ _. checked 2 room adds-first)
   call-does (leaf v l s) =
@@ -228,9 +247,9 @@ module _ (capacity : ℕ) (p : PlainList) where
       checked 5 (says-label door) (λ i.
       checked 10 (says-eqb (parentOf p x) none) (λ r.
       checked 11 (says-not (says-eqb (rootIn p v) x)) (λ d. joins (h .0) (h .1) (i .0) (i .1) r d)))))
-  call-does (question x y) = asks x y (answered (naiveAnswer (parentOf p) (labelOf p) (countOf p) x y))
-  call-does (alike x y) = asks x y (same (bit (naiveSame (parentOf p) (labelOf p) (countOf p) x y)))
-  call-does (inspection s) = checked 3 (says-eqb s capacity) (λ _. nothing)
+  call-does (question x y) = asks x y _ (answered-unlinked (naiveAnswer (parentOf p) (labelOf p) (countOf p) x y))
+  call-does (alike x y) = asks x y _ (same-unlinked (bit (naiveSame (parentOf p) (labelOf p) (countOf p) x y)))
+  call-does (inspection s) = checked 3 (says-eqb s capacity) (λ _. nothing passes-unlinked)
 
   -- a refusal changes nothing
   pub refusal-keeps : (q : PlainCall) (n : ℕ) → plainStep capacity p q ≡ refused n → plainAfter capacity p q ≡ p
@@ -239,13 +258,10 @@ module _ (capacity : ℕ) (p : PlainList) where
       not-node : {m : ℕ} → node m ≢ refused n
       not-node e = let z : _≡_ {A = ℕ} 0 1 = cc in omega arith
 
-      not-linked : linked ≢ refused n
-      not-linked e = let z : _≡_ {A = ℕ} 0 1 = cc in omega arith
-
-      go : {o : PlainOutcome} → Does capacity p o → o .reply ≡ refused n → o .after ≡ p
-      go nothing e = refl
+      go : {q : PlainCall} {o : PlainOutcome} → Does capacity p q o → o .reply ≡ refused n → o .after ≡ p
+      go (nothing d) e = refl
       go (adds-first d) e = absurd (not-node e)
       go (adds-leaf h i j d) e = absurd (not-node e)
       go (adds-root z d) e = absurd (not-node e)
       go (adds-over h r d) e = absurd (not-node e)
-      go (joins h i j k r d) e = absurd (not-linked e)
+      go (joins h i j k r d) e = absurd (refused-unlinked n (sym e))

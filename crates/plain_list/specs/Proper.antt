@@ -115,8 +115,8 @@ module _ {capacity : ℕ} (most : capacity ≤ none) where
   pub proper-call : {p : PlainList} → Proper capacity p → (q : PlainCall) → Proper capacity (plainAfter capacity p q)
   proper-call {p} t q = go (call-does capacity p q)
     where
-      go : {o : PlainOutcome} → Does capacity p o → Proper capacity (o .after)
-      go nothing = t
+      go : {q : PlainCall} {o : PlainOutcome} → Does capacity p q o → Proper capacity (o .after)
+      go (nothing d) = t
       go (adds-first d) = proper-first most t d
       go (adds-leaf {l = l} h i j d) = proper-leaf most t d l h
       go (adds-root z d) = let l : 0 < countOf p = omega arith in proper-root most t d (root-known t 0 l) (root-first t 0 l .top)

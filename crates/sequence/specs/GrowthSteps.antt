@@ -1,14 +1,13 @@
 -- First nodes, leaves and new roots, where the table stands beside the plain list: refused as it refuses, or served.
 use mathlib.Core.Path.{_≡_, refl, sym, ap, _∙_}
-use mathlib.Core.Bool.{false}
 use mathlib.Core.Logic.{_≢_}
 use mathlib.Core.List.{List}
 use Prim.Native.Nat.{ℕ, _≤_, _<_}
 use native.Mathlib.Decide.{decLt, ℕ-discrete}
 use native.Mathlib.Omega.{arith}
-use borrow.Author.Tests.{eq-eqb, ne-eqb, le-leb}
+use borrow.Author.Tests.{eq-eqb, ne-eqb}
 use lib.ListN.{length}
-use Rattle.laws.specs.Test.{says-false, says-and, says-leb}
+use Rattle.laws.specs.Test.{says-true, says-false}
 use Rattle.tree_laws.specs.Ancestor.{none}
 use Rattle.rows.specs.declared.refusal.Refusal.{Refusal}
 use Rattle.rows.specs.declared.refusal.Refusal.the-variants.{UnknownNode, Full, Misfit, BadLabel, NotRoot}
@@ -18,7 +17,7 @@ use Rattle.rows.specs.PlainTree.{plain, root as rootOf}
 use Rattle.rows.specs.StoredTree.{labelLimit}
 use Rattle.numbering.specs.TreeTests.{root-is}
 use Rattle.growth.specs.declared.plan.Planned.the-variants.{Refuse}
-use Rattle.growth.specs.Plan.{isLabel, firstPlan, leafPlan, overPlan, rootPlan}
+use Rattle.growth.specs.Plan.{firstPlan, leafPlan, overPlan, rootPlan}
 use Rattle.growth.specs.PlanLaws.{leaf-scratch, leaf-unknown, leaf-label, leaf-full, first-scratch, first-full, root-scratch, root-full}
 use Rattle.growth.specs.PlanLaws.{over-scratch, over-unknown, over-other, over-full}
 use Rattle.growth.specs.Growth.{Outcome, addFirst, addLeaf, addOver, addRoot}
@@ -36,7 +35,7 @@ use Rattle.sequence.specs.Run.{Fast, tableIn, step}
 use Rattle.sequence.specs.Invariant.{Stands}
 use Rattle.sequence.specs.StepExact.{asks-leaf, asks-over, asks-root, begins-first, begins-root, StepStands}
 use Rattle.sequence.specs.Trees.{in-use, root-top, top-root, root-known, root-shown}
-use Rattle.sequence.specs.Growths.{Next, grown-step, started-step, fit, grown-refused}
+use Rattle.sequence.specs.Growths.{says-label, Next, grown-step, started-step, fit, grown-refused}
 
 module _ {c : ℕ} {f : Fast} {p : PlainList} {total joinings : ℕ} (s : Stands c f p total joinings) where
   small : c ≤ none
@@ -118,13 +117,10 @@ module _ {c : ℕ} {f : Fast} {p : PlainList} {total joinings : ℕ} (s : Stands
         let x = leaf-exact (f .parts) (f .state) (s .fits) (s .rules) (length scratch) e (room n) v l (in-use s h) i j in
         rw (plainly.leaf-served c p v l (length scratch) e h i j n) (grown-step s _ x asks-leaf (leaf-next n h x))
 
-    no-label : ¬ ((1 ≤ l) × (l ≤ labelLimit)) → isLabel l ≡ false
-    no-label d = says-false (says-and (says-leb 1 l) (λ _. says-leb l labelLimit)) d
-
     leaf-unlabelled : length scratch ≡ c → v < countOf p → ¬ ((1 ≤ l) × (l ≤ labelLimit))
         → StepStands c f total joinings (leaf v l scratch) (plainOutcome c p (plainLeaf v l (length scratch))) (step f (leaf v l scratch))
     leaf-unlabelled e h d = leaf-refused BadLabel (plainly.leaf-no-label c p v l (length scratch) e h d)
-        (leaf-label (f .parts) (length scratch) (f .state) v l c (fit s) e (in-use s h) (no-label d))
+        (leaf-label (f .parts) (length scratch) (f .state) v l c (fit s) e (in-use s h) (says-false (says-label l) d))
 
     pub leaf-step : StepStands c f total joinings (leaf v l scratch) (plainOutcome c p (plainLeaf v l (length scratch))) (step f (leaf v l scratch))
     leaf-step = elim (ℕ-discrete (length scratch) c) [
@@ -142,7 +138,7 @@ module _ {c : ℕ} {f : Fast} {p : PlainList} {total joinings : ℕ} (s : Stands
                 elim (ℕ-discrete (countOf p) c) [
                   | yes w ↦ leaf-refused Full (plainly.leaf-full c p v l (length scratch) e h a b w)
                       (leaf-full (f .parts) (length scratch) (f .state) v l c (fit s) e (in-use s h)
-                      (rw (le-leb 1 l a, le-leb l labelLimit b) refl) (sym (s .count) ∙ w))
+                      (says-true (says-label l) (a, b)) (sym (s .count) ∙ w))
                   | no w ↦ leaf-served e h a b w
                 ]
           ]

@@ -1,7 +1,8 @@
 -- A growth, where the table stands beside the plain list: served, and the table stands beside it again, or refused as it refuses.
 use mathlib.Core.Path.{_≡_, sym, ap, _∙_}
-use Prim.Native.Nat.{ℕ, suc}
+use Prim.Native.Nat.{ℕ, suc, _≤_}
 use native.Mathlib.Omega.{arith}
+use Rattle.laws.specs.Test.{Says, says-and, says-leb}
 use Rattle.rows.specs.declared.capacity.Fit.the-variants.{Capacity}
 use Rattle.rows.specs.declared.refusal.Refusal.{Refusal}
 use Rattle.rows.specs.Refusal.{numberOf}
@@ -9,9 +10,11 @@ use Rattle.rows.specs.Capacity.{capacityOf}
 use Rattle.rows.specs.Table.{Table, label}
 use Rattle.rows.specs.PlainTree.{plain}
 use Rattle.rows.specs.CapacityLaws.{fits-told}
+use Rattle.rows.specs.StoredTree.{labelLimit}
 use Rattle.growth.specs.declared.Grown.{Grown}
 use Rattle.growth.specs.declared.plan.Planned.{Planned}
 use Rattle.growth.specs.declared.plan.Planned.the-variants.{Refuse}
+use Rattle.growth.specs.Plan.{isLabel}
 use Rattle.growth.specs.Growth.{Outcome, grownBy}
 use Rattle.growth_laws.specs.Growth.{Growth}
 use Rattle.growth_exact.specs.GrowthExact.{GrownExactly, tableGrown}
@@ -26,6 +29,10 @@ use Rattle.sequence.specs.Agrees.{Agrees, nodes}
 use Rattle.sequence.specs.Invariant.{Stands}
 use Rattle.sequence.specs.StepExact.{Asks, Begins, growth, start, StepStands, few-rows}
 use Rattle.sequence.specs.AskedSteps.{steps-by, still-refused}
+
+-- what the calls ask of a label
+pub says-label : (l : ℕ) → Says ((1 ≤ l) × (l ≤ labelLimit)) (isLabel l)
+says-label l = says-and (says-leb 1 l) (λ _. says-leb l labelLimit)
 
 node-agrees : {a b : ℕ} (k : ℕ) → a ≡ b → Agrees (node a) (grown b k)
 node-agrees {a} {b} k e = rw e (nodes b k)
@@ -51,6 +58,7 @@ module _ {c : ℕ} {f : Fast} {p : PlainList} {total joinings : ℕ} (s : Stands
         agrees = node-agrees _ (s .count);
         few = λ x y _. few-rows (f .parts) (s .fits) (f .state) x y;
         renumbers = λ m k i. growth (e .head) a (e .grown) (sym (ap rowsIn i));
+        links = λ k i. absurd (let z : _≡_ {A = ℕ} 0 1 = cc in omega arith);
         kept = λ n i. absurd (let z : _≡_ {A = ℕ} 0 1 = cc in omega arith);
       };
       stands = record {
@@ -70,6 +78,7 @@ module _ {c : ℕ} {f : Fast} {p : PlainList} {total joinings : ℕ} (s : Stands
         agrees = node-agrees _ (s .count);
         few = λ x y _. few-rows (f .parts) (s .fits) (f .state) x y;
         renumbers = λ m k i. start a (e .started) (sym (ap rowsIn i));
+        links = λ k i. absurd (let z : _≡_ {A = ℕ} 0 1 = cc in omega arith);
         kept = λ n i. absurd (let z : _≡_ {A = ℕ} 0 1 = cc in omega arith);
       };
       stands = record {

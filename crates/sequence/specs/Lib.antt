@@ -7,4 +7,5 @@ pub mod Trees
 pub mod AskedSteps
 pub mod Growths
 pub mod GrowthSteps
+pub mod LinkSteps
 pub mod SequenceExact

@@ -10,6 +10,9 @@ use Rattle.set_up.specs.Blank.{partsAfter}
 use Rattle.growth.specs.declared.Grown.{Grown}
 use Rattle.growth.specs.declared.Grown.the-variants.{Node, Refused as NotGrown}
 use Rattle.growth.specs.Growth.{Outcome as GrowthOutcome, addFirst, addLeaf, addRoot, addOver}
+use Rattle.link.specs.declared.Linked.{Linked}
+use Rattle.link.specs.declared.Linked.the-variants.{Under, Refused as NotLinked}
+use Rattle.link.specs.Link.{Outcome as LinkOutcome, linkBy}
 use Rattle.query.specs.Outcome.{Outcome as QuestionOutcome, refusal as noAnswer, answer}
 use Rattle.query.specs.Question.{question as ask}
 use Rattle.alike.specs.Outcome.{Outcome as AlikeOutcome, refusal as noValue, value}
@@ -17,7 +20,7 @@ use Rattle.alike.specs.Alike.{alike as compare}
 use Rattle.inspect.specs.declared.Inspected.{Inspected}
 use Rattle.inspect.specs.declared.Inspected.the-variants.{Passes, Refused as NotInspected}
 use Rattle.inspect.specs.Inspection.{inspection as inspect}
-use Rattle.sequence.specs.Calls.{Call, first, leaf, root, rootOver, question, alike, inspection, Reply, refused, grown, answered, same, inspected}
+use Rattle.sequence.specs.Calls.{Call, first, leaf, root, rootOver, link, question, alike, inspection, Reply, refused, grown, linked, answered, same, inspected}
 
 -- the lent parts, with their count
 pub record Fast : Type 0 where
@@ -53,6 +56,14 @@ stateAfter s (NotGrown r) = s
 abbrev pub afterGrowth : State → GrowthOutcome → Turn
 afterGrowth s o = record { reply = grownReply (o .grown); after = record { parts = o .parts; state = stateAfter s (o .grown) } }
 
+-- a link keeps the count
+abbrev pub linkReply : Linked → Reply
+linkReply (Under l) = linked (l .rows)
+linkReply (NotLinked r) = refused (numberOf r)
+
+abbrev pub afterLink : State → LinkOutcome → Turn
+afterLink s o = record { reply = linkReply (o .linked); after = record { parts = o .parts; state = s } }
+
 abbrev pub questionReply : QuestionOutcome → Reply
 questionReply (noAnswer n) = refused n
 questionReply (answer a u v i j l) = answered a u v i j l
@@ -71,6 +82,7 @@ step f (first s) = afterGrowth (f .state) (addFirst (f .parts) (length s) (f .st
 step f (leaf v l s) = afterGrowth (f .state) (addLeaf (f .parts) (length s) (f .state) v l)
 step f (root s) = afterGrowth (f .state) (addRoot (f .parts) (length s) (f .state))
 step f (rootOver x s) = afterGrowth (f .state) (addOver (f .parts) (length s) (f .state) x)
+step f (link x v door s) = afterLink (f .state) (linkBy (f .parts) (length s) (f .state) x v door)
 step f (question x y) = replies f (questionReply (ask (f .parts) (f .state) x y))
 step f (alike x y) = replies f (alikeReply (compare (f .parts) (f .state) x y))
 step f (inspection s) = replies f (inspectionReply (inspect (f .parts) (length s) (f .state)))
@@ -89,6 +101,7 @@ run f (q ∷ qs) = let rest = run (step f q .after) qs in record { replies = ste
 abbrev pub rowsIn : Reply → ℕ
 rowsIn (refused n) = 0
 rowsIn (grown n k) = k
+rowsIn (linked k) = k
 rowsIn (answered a u v i j l) = 0
 rowsIn (same b) = 0
 rowsIn (inspected b) = 0

@@ -16,13 +16,14 @@ use Rattle.plain_list.specs.PlainList.{PlainList, emptyList, countOf}
 use Rattle.plain_list.specs.PlainStep.{plainOutcome, plainAfter, plainRun}
 use Rattle.plain_list.specs.Shows.{Shows}
 use Rattle.plain_list.specs.Joinings.{Unlinked, joinings-count}
-use Rattle.sequence.specs.Calls.{Call, first, leaf, root, rootOver, question, alike, inspection, told, toldAll}
+use Rattle.sequence.specs.Calls.{Call, first, leaf, root, rootOver, link, question, alike, inspection, told, toldAll}
 use Rattle.sequence.specs.Run.{Fast, tableIn, start, step, run, totalIn}
 use Rattle.sequence.specs.Agrees.{AllAgree, end, next}
 use Rattle.sequence.specs.Invariant.{Stands, start-stands}
 use Rattle.sequence.specs.StepExact.{StepExact, StepStands}
 use Rattle.sequence.specs.AskedSteps.{question-step, alike-step, inspection-step}
 use Rattle.sequence.specs.GrowthSteps.{first-step, leaf-step, root-step, over-step}
+use Rattle.sequence.specs.LinkSteps.{link-step}
 
 -- each call of the list, on what the calls before it left, is exact
 pub data EachExact (c : ℕ) : Fast → PlainList → List Call → Type 0 where
@@ -40,7 +41,8 @@ pub record SequenceExact (c : ℕ) (parts : Parts) (calls : List Call) : Type 0 
   pub setUp : setUp parts ≡ Empty (record { count = 0 })
   -- every reply is the plain list's
   pub replies : AllAgree (plainRun c emptyList (toldAll calls) .replies) (run (start parts) calls .replies)
-  -- each question draws on few rows, each served growth answers the rows at or below its head in the stored tree, and a refusal changes nothing
+  -- each question draws on few rows, each served growth answers the rows at or below its head in the stored tree, each served link
+  -- those of its joinings, and a refusal changes nothing
   pub each : EachExact c (start parts) emptyList calls
   -- the rows renumbered by all calls together
   pub total : totalIn (run (start parts) calls .replies) ≤ rowsPerJoining * plainRun c emptyList (toldAll calls) .joinings
@@ -57,6 +59,7 @@ module _ {c : ℕ} {f : Fast} {p : PlainList} {total joinings : ℕ} (s : Stands
   step-exact (leaf v l scratch) = leaf-step s v l scratch
   step-exact (root scratch) = root-step s scratch
   step-exact (rootOver x scratch) = over-step s x scratch
+  step-exact (link x v door scratch) = link-step s x v door scratch
   step-exact (question x y) = question-step s x y
   step-exact (alike x y) = alike-step s x y
   step-exact (inspection scratch) = inspection-step s scratch

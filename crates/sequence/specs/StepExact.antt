@@ -14,9 +14,10 @@ use Rattle.query.specs.FewRowsLaws.{question-few-rows}
 use Rattle.growth_laws.specs.Growth.{Growth, leaf as newLeaf, root as newRoot}
 use Rattle.growth_laws.specs.Grown.{Grown, Started}
 use Rattle.growth_laws.specs.Renumbered.{rows}
+use Rattle.link_laws.specs.Link.{Linked}
 use Rattle.plain_list.specs.PlainList.{PlainList}
 use Rattle.plain_list.specs.PlainStep.{PlainReply, PlainOutcome, replies as plainReplies}
-use Rattle.sequence.specs.Calls.{Call, first, leaf, root, rootOver, question, Reply, refused, grown}
+use Rattle.sequence.specs.Calls.{Call, first, leaf, root, rootOver, link, question, Reply, refused, grown, linked}
 use Rattle.sequence.specs.Run.{Fast, tableIn, Turn, replies, rowsIn}
 use Rattle.sequence.specs.Agrees.{Agrees}
 use Rattle.sequence.specs.Invariant.{Stands}
@@ -33,11 +34,13 @@ pub data Begins (t : Table) : Call → Type 0 where
   begins-root : {s : List ℕ} → t .count ≡ 0 → Begins t (root s)
 
 -- by call q table t became table d, and k is how many rows were renumbered
-pub data Renumbers (t d : Table) (q : Call) (k : ℕ) : Type 0 where
+pub data Renumbers (t d : Table) (k : ℕ) : Call → Type 0 where
   -- by a growth: its head, and all rows below it in the stored tree
-  growth : {g : Growth} (head : ℕ) → Asks t q g → Grown t d g head → k ≡ rows d head → Renumbers t d q k
+  growth : {q : Call} {g : Growth} (head : ℕ) → Asks t q g → Grown t d g head → k ≡ rows d head → Renumbers t d k q
   -- by a first node: its own row
-  start : Begins t q → Started t d → k ≡ 1 → Renumbers t d q k
+  start : {q : Call} → Begins t q → Started t d → k ≡ 1 → Renumbers t d k q
+  -- by a link: those of all its joinings, added up
+  joinings : {x v door : ℕ} {s : List ℕ} → Linked t d x v door k → Renumbers t d k (link x v door s)
 
 -- a question draws on at most so many rows
 abbrev pub mostRows : ℕ
@@ -50,7 +53,9 @@ pub record StepExact (c : ℕ) (f : Fast) (q : Call) (o : PlainOutcome) (u : Tur
   -- a question draws on few rows
   pub few : (x y : ℕ) → q ≡ question x y → DrawsOn mostRows c (f .parts) (f .state) x y
   -- a served growth renumbers its head and all rows below it in the stored tree, a first node itself, and it answers how many these are
-  pub renumbers : (n k : ℕ) → u .reply ≡ grown n k → Renumbers (tableIn f) (tableIn (u .after)) q k
+  pub renumbers : (n k : ℕ) → u .reply ≡ grown n k → Renumbers (tableIn f) (tableIn (u .after)) k q
+  -- and so does a served link
+  pub links : (k : ℕ) → u .reply ≡ linked k → Renumbers (tableIn f) (tableIn (u .after)) k q
   -- a refusal leaves parts and count as they went in
   pub kept : (n : ℕ) → u .reply ≡ refused n → u .after ≡ f
 
@@ -66,8 +71,14 @@ few-rows a f s x y = let d = question-few-rows a f s x y in record { rows = d .r
 
 -- a call that changes nothing and renumbers nothing
 pub still : {c : ℕ} {f : Fast} {p : PlainList} {total joinings : ℕ} → Stands c f p total joinings → (q : Call) {r : PlainReply} {u : Reply} → Agrees r u
-    → rowsIn u ≡ 0 → ((n k : ℕ) → u ≢ grown n k) → StepStands c f total joinings q (plainReplies r p) (replies f u)
-still {c} {f} {p} {total} {joinings} s q {r} {u} a z d = record {
-  exact = record { agrees = a; few = λ x y _. few-rows (f .parts) (s .fits) (f .state) x y; renumbers = λ n k e. absurd (d n k e); kept = λ n e. refl };
+    → rowsIn u ≡ 0 → ((n k : ℕ) → u ≢ grown n k) → ((k : ℕ) → u ≢ linked k) → StepStands c f total joinings q (plainReplies r p) (replies f u)
+still {c} {f} {p} {total} {joinings} s q {r} {u} a z d i = record {
+  exact = record {
+    agrees = a;
+    few = λ x y _. few-rows (f .parts) (s .fits) (f .state) x y;
+    renumbers = λ n k e. absurd (d n k e);
+    links = λ k e. absurd (i k e);
+    kept = λ n e. refl;
+  };
   stands = record { fits = s .fits; rules = s .rules; proper = s .proper; shows = s .shows; count = s .count; paid = omega (arith, s .paid) };
 }
