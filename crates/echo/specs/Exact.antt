@@ -14,7 +14,7 @@ use Rattle.plain_list.specs.PlainList.{emptyList}
 use Rattle.plain_list.specs.Joinings.{Linkless, end as none-asked, next as also, unlinked}
 use Rattle.sequence.specs.Calls.{Call, toldAll}
 use Rattle.sequence.specs.Run.{start, run, totalIn}
-use Rattle.sequence.specs.SequenceExact.{SequenceExact, sequence-exact, rowsPerJoining, total-count}
+use Rattle.sequence.specs.SequenceExact.{SequenceExact, sequence-exact, rowsPerJoining, total-nodes}
 use Rattle.echo.specs.Report.{report}
 use Rattle.echo.specs.Session.{Session, Asked, call, nothing, askedBy, wholeField, stepBy, stepOf}
 use Rattle.echo.specs.Transcript.{readFrom, readLog, rows, lent, scratch, opening}
@@ -149,5 +149,5 @@ transcript-exact log =
       calls = e;
       table = l .fast;
       total = t;
-      most = rw (t, l .fast) (total-count e (unlinked rows emptyList (calls-linkless log scratch (suc (length log)) opening)));
+      most = rw (t, l .fast) (total-nodes e (unlinked rows emptyList (calls-linkless log scratch (suc (length log)) opening)));
     }

@@ -79,7 +79,7 @@ module _ {c : ℕ} {f : Fast} {p : PlainList} {total joined : ℕ} (s : Stands c
         (afterLink (f .state) o)
     linked-step {o} h i top d e = rw (ap (turn o) (e .answered)) record {
       exact = record {
-        agrees = links (e .rows);
+        agrees = links _;
         few = λ x y _. few-rows (f .parts) (s .fits) (f .state) x y;
         renumbers = λ n k i. absurd (let z : _≡_ {A = ℕ} 0 1 = cc in omega arith);
         links = λ k i. joinings (rw (ap rowsIn i) at (e .linked));

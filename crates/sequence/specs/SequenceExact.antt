@@ -106,6 +106,6 @@ sequence-exact c parts f calls =
 -- What follows from it
 
 -- where no tree was linked, at most 120 rows are renumbered for each node (01)
-pub total-count : {c : ℕ} {parts : Parts} {calls : List Call} → SequenceExact c parts calls → Unlinked (plainRun c emptyList (toldAll calls) .replies)
+pub total-nodes : {c : ℕ} {parts : Parts} {calls : List Call} → SequenceExact c parts calls → Unlinked (plainRun c emptyList (toldAll calls) .replies)
     → totalIn (run (start parts) calls .replies) ≤ rowsPerJoining * run (start parts) calls .last .state .count
-total-count {c} {calls = calls} e u = omega (arith, e .total, e .count, joinings-count c (toldAll calls) u)
+total-nodes {c} {calls = calls} e u = omega (arith, e .total, e .count, joinings-count c (toldAll calls) u)
