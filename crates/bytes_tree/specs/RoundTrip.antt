@@ -130,12 +130,12 @@ module _ (s : State) (t : Parts) (f : Fits treeRows t) (g : InBytes s t) where
       let n = columnOf 8 (t .numbers) in
       let v = columnOf 4 (map unsigned (t .levels)) in
       let a = columnOf 2 (t .ancestors) in
-      let lx : length x ≡ 2816 = length-column 2 (t .fields) ∙ ap (λ (k : ℕ). k * 2) (f .fields) in
+      let lx : length x ≡ 3072 = length-column 2 (t .fields) ∙ ap (λ (k : ℕ). k * 2) (f .fields) in
       let ln : length n ≡ 2048 = length-column 8 (t .numbers) ∙ ap (λ (k : ℕ). k * 8) (f .numbers) in
       let lv : length v ≡ 512 = length-column 4 (map unsigned (t .levels)) ∙ ap (λ (k : ℕ). k * 4) (length-map (t .levels) unsigned ∙ f .levels) in
       let e : x ++ (n ++ (v ++ a)) ≡ (x ++ (n ++ v)) ++ (a ++ []) = simp (append-assoc, append-nil) in
       parts-eq t
-      (column-read c (n ++ (v ++ a)) fieldsPlace 1408 refl 2 (t .fields) (f .fields) (g .fields))
+      (column-read c (n ++ (v ++ a)) fieldsPlace 1536 refl 2 (t .fields) (f .fields) (g .fields))
       (column-read (c ++ x) (v ++ a) numbersPlace 256 (omega arith) 8 (t .numbers) (f .numbers) (g .numbers))
       (ap (λ (l : List ℕ). levelsAt 128 (c ++ l) levelsPlace) (sym (append-assoc x n (v ++ a)))
       ∙ levels-read (c ++ (x ++ n)) a levelsPlace 128 (simp length-append (omega arith)) (t .levels) (f .levels) (g .levels))
@@ -156,6 +156,6 @@ bytes-back b e u =
     let levels : columnOf 4 (map unsigned (levelsAt 128 b levelsPlace)) ≡ take 512 (drop levelsPlace b) =
     ap (columnOf 4) (levels-written b u levelsPlace 128) ∙ column-written b u 4 levelsPlace 128 (omega arith) in
     follow b 0 2 (bytes-at b u 2 0 (omega arith))
-    (follow b fieldsPlace 2816 (column-written b u 2 fieldsPlace 1408 (omega arith))
+    (follow b fieldsPlace 3072 (column-written b u 2 fieldsPlace 1536 (omega arith))
     (follow b numbersPlace 2048 (column-written b u 8 numbersPlace 256 (omega arith))
     (follow b levelsPlace 512 levels entries)))

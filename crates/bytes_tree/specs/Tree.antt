@@ -13,20 +13,20 @@ abbrev pub treeRows : ℕ
 treeRows = 128
 
 abbrev pub treeBytes : ℕ
-treeBytes = 36610
+treeBytes = 36866
 
 -- the places of the columns; the count is at 0
 abbrev pub fieldsPlace : ℕ
 fieldsPlace = 2
 
 abbrev pub numbersPlace : ℕ
-numbersPlace = 2818
+numbersPlace = 3074
 
 abbrev pub levelsPlace : ℕ
-levelsPlace = 4866
+levelsPlace = 5122
 
 abbrev pub ancestorsPlace : ℕ
-ancestorsPlace = 5378
+ancestorsPlace = 5634
 
 -- the count that bytes hold
 unfoldable pub stateIn : List ℕ → State
@@ -34,7 +34,7 @@ stateIn b = record { count = valueAt 2 b 0 }
 
 -- and the parts of the table
 unfoldable pub partsIn : List ℕ → Parts
-partsIn b = partsOf (numbersAt 2 1408 b fieldsPlace) (numbersAt 8 256 b numbersPlace) (levelsAt 128 b levelsPlace) (numbersAt 2 15616 b ancestorsPlace)
+partsIn b = partsOf (numbersAt 2 1536 b fieldsPlace) (numbersAt 8 256 b numbersPlace) (levelsAt 128 b levelsPlace) (numbersAt 2 15616 b ancestorsPlace)
 
 -- a tree as bytes
 unfoldable pub encoded : State → Parts → List ℕ

@@ -32,7 +32,7 @@ parts-fit b = record {
   least = omega arith;
   most = omega arith;
   levels = length-levels 128 b _;
-  fields = length-numbers 2 1408 b _;
+  fields = length-numbers 2 1536 b _;
   numbers = length-numbers 8 256 b _;
   ancestors = length-numbers 2 15616 b _;
 }
@@ -65,7 +65,7 @@ tree-stored l s t e f =
     let n = columnOf 8 (t .numbers) in
     let v = columnOf 4 (map unsigned (t .levels)) in
     let a = columnOf 2 (t .ancestors) in
-    let lx : length x ≡ 2816 = length-column 2 (t .fields) ∙ ap (λ (k : ℕ). k * 2) (f .fields) in
+    let lx : length x ≡ 3072 = length-column 2 (t .fields) ∙ ap (λ (k : ℕ). k * 2) (f .fields) in
     let ln : length n ≡ 2048 = length-column 8 (t .numbers) ∙ ap (λ (k : ℕ). k * 8) (f .numbers) in
     let lv : length v ≡ 512 = length-column 4 (map unsigned (t .levels)) ∙ ap (λ (k : ℕ). k * 4) (length-map (t .levels) unsigned ∙ f .levels) in
     let b1 = sets l 0 c in

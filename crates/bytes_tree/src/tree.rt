@@ -15,17 +15,17 @@ ghost use Rattle.rows.specs.Capacity.{Fits};
 ghost use Rattle.bytes_tree.specs.Tree.{treeRows, treeBytes, stateIn, partsIn, encoded, InBytes};
 
 // The bytes of a tree, and the places of its columns.
-pub const BYTES: usize = 36610;
+pub const BYTES: usize = 36866;
 
 const COUNT: usize = 0;
 
 const FIELDS: usize = 2;
 
-const NUMBERS: usize = 2818;
+const NUMBERS: usize = 3074;
 
-const LEVELS: usize = 4866;
+const LEVELS: usize = 5122;
 
-const ANCESTORS: usize = 5378;
+const ANCESTORS: usize = 5634;
 
 pub fn read_state(b: &[u8]) -> State
     requires { ⌜ length (now b) ≡ treeBytes ⌝ }

@@ -37,7 +37,7 @@ abbrev pub rootPlace : ℕ
 rootPlace = 10
 
 abbrev pub fieldStride : ℕ
-fieldStride = 11
+fieldStride = 12
 
 -- 64-bit numbers of a row in `numbers`
 abbrev pub startPlace : ℕ
