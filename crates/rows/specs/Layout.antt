@@ -36,6 +36,7 @@ labelPlace = 9
 abbrev pub rootPlace : ℕ
 rootPlace = 10
 
+-- one place is not used: a row of twelve is addressed by one scaled index
 abbrev pub fieldStride : ℕ
 fieldStride = 12
 
