@@ -25,14 +25,14 @@ reply n l = record { number = n; out = l }
 abbrev pub misfit : {A : Type 0} → List A → Reply A
 misfit out = reply (numberOf Misfit) out
 
--- count and root
+-- the count
 abbrev pub madeReply : List ℕ → Made → Reply ℕ
-madeReply out (Empty s) = reply 0 (s .count ∷ s .root ∷ [])
+madeReply out (Empty s) = reply 0 (s .count ∷ [])
 madeReply out (NotMade r) = reply (numberOf r) out
 
--- count, root, the new node, and the rows renumbered
+-- count, the new node, and the rows renumbered
 abbrev pub grownReply : List ℕ → Grown → Reply ℕ
-grownReply out (Node g) = reply 0 (g .state .count ∷ g .state .root ∷ g .node ∷ g .rows ∷ [])
+grownReply out (Node g) = reply 0 (g .state .count ∷ g .node ∷ g .rows ∷ [])
 grownReply out (NotGrown r) = reply (numberOf r) out
 
 -- the nearest common ancestor, the branches towards x and y, their distances, and the label

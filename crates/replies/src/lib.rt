@@ -28,22 +28,20 @@ fn bit_of(b: bool) -> u16
     if b { 1 } else { 0 }
 }
 
-fn put_two(out: &mut [u16], a: u16, b: u16)
-    requires { ⌜ length (now out) ≡ 2 ⌝ }
-    ensures { λ _. ⌜ now (out .exit) ≡ a ∷ b ∷ [] ⌝ }
+fn put_one(out: &mut [u16], a: u16)
+    requires { ⌜ length (now out) ≡ 1 ⌝ }
+    ensures { λ _. ⌜ now (out .exit) ≡ a ∷ [] ⌝ }
 {
     out[0] = a;
-    out[1] = b;
 }
 
-fn put_four(out: &mut [u16], a: u16, b: u16, c: u16, d: u16)
-    requires { ⌜ length (now out) ≡ 4 ⌝ }
-    ensures { λ _. ⌜ now (out .exit) ≡ a ∷ b ∷ c ∷ d ∷ [] ⌝ }
+fn put_three(out: &mut [u16], a: u16, b: u16, c: u16)
+    requires { ⌜ length (now out) ≡ 3 ⌝ }
+    ensures { λ _. ⌜ now (out .exit) ≡ a ∷ b ∷ c ∷ [] ⌝ }
 {
     out[0] = a;
     out[1] = b;
     out[2] = c;
-    out[3] = d;
 }
 
 fn put_six(out: &mut [i32], a: i32, b: i32, c: i32, d: i32, e: i32, f: i32)
@@ -58,20 +56,13 @@ fn put_six(out: &mut [i32], a: i32, b: i32, c: i32, d: i32, e: i32, f: i32)
     out[5] = f;
 }
 
-fn put_one(out: &mut [u16], a: u16)
-    requires { ⌜ length (now out) ≡ 1 ⌝ }
-    ensures { λ _. ⌜ now (out .exit) ≡ a ∷ [] ⌝ }
-{
-    out[0] = a;
-}
-
 pub fn reply_made(made: Made, out: &mut [u16]) -> u16
-    requires { ⌜ length (now out) ≡ 2 ⌝ }
+    requires { ⌜ length (now out) ≡ 1 ⌝ }
     ensures { λ r. ⌜ reply r (now (out .exit)) ≡ madeReply (now (out .entry)) made ⌝ }
 {
     match made {
         Made::Empty(s) => {
-            put_two(out, s.count, s.root);
+            put_one(out, s.count);
             0
         }
         Made::Refused(r) => number_of(r),
@@ -79,13 +70,13 @@ pub fn reply_made(made: Made, out: &mut [u16]) -> u16
 }
 
 pub fn reply_grown(grown: Grown, out: &mut [u16]) -> u16
-    requires { ⌜ length (now out) ≡ 4 ⌝ }
+    requires { ⌜ length (now out) ≡ 3 ⌝ }
     ensures { λ r. ⌜ reply r (now (out .exit)) ≡ grownReply (now (out .entry)) grown ⌝ }
 {
     match grown {
         Grown::Node(g) => {
             let s = g.state;
-            put_four(out, s.count, s.root, g.node, g.rows);
+            put_three(out, s.count, g.node, g.rows);
             0
         }
         Grown::Refused(r) => number_of(r),
