@@ -1,5 +1,5 @@
 -- The rows of the linked tree, detached in the lent parts, stand alone with their targets in their root fields.
-use mathlib.Core.Path.{_≡_, refl, ap, sym, _∙_}
+use mathlib.Core.Path.{_≡_, refl, ap, sym, subst, _∙_}
 use mathlib.Core.Bool.{Bool, true, false}
 use mathlib.Core.Logic.{_⊎_, inl, inr, _≢_}
 use mathlib.Core.List.{List}
@@ -35,7 +35,9 @@ use Rattle.numbering.specs.TreeEntry.{entry-first}
 use Rattle.link_laws.specs.Link.{target, Linkable}
 use Rattle.link_laws.specs.Order.{isOfTree}
 use Rattle.link_exact.specs.LinkExact.{Detached}
-use Rattle.link.specs.Detach.{keptParents, turnedLine, lonely, partedRows, turnedFields, detached}
+use Rattle.renumber.specs.NumberWalk.{Written, written}
+use Rattle.link.specs.DetachLaws.{other-parted, tree-parted}
+use Rattle.link.specs.Detach.{keptParent, keptParents, turnedLine, lonely, partedRow, partedRows, turnedFields, detachedFrom, withLevels, detached}
 
 -- Stored parents kept as roots
 
@@ -47,7 +49,7 @@ record Keeps (a : List ℕ) (tree c m w : ℕ) (f g : List ℕ) : Type 0 where
   off : (y : ℕ) → y < c → entryAt a y treePlace ≢ tree → fieldAt g y rootPlace ≡ fieldAt f y rootPlace
 
 keeps : (a : List ℕ) (tree c m w : ℕ) (f : List ℕ) → w + m ≤ c → Holds fieldStride c f → Keeps a tree c m w f (keptParents a tree m w f)
-unfolding keptParents
+unfolding keptParents keptParent
 keeps a tree c zero w f l h = record { holds = h; rest = λ y j i d. refl; on = λ y i j e. absurd (omega arith); low = λ y i. refl; off = λ y i d. refl }
 keeps a tree c (suc m) w f l h = elim (ℕ-discrete (entryAt a w treePlace) tree) [
   | yes e ↦
@@ -170,9 +172,15 @@ record PartedTo (c n tree m w : ℕ) (p q : Parts) : Type 0 where
   low : (y : ℕ) → y < w → Kept (tableOf p n) (tableOf q n) y
   off : (y : ℕ) → entryAt (p .ancestors) y treePlace ≢ tree → Kept (tableOf p n) (tableOf q n) y
 
-parts-alone : (c n tree m w : ℕ) (p : Parts) → w + m ≤ c → Fits c p → PartedTo c n tree m w p (partedRows tree m w p)
+-- from what the first row became
+on-row : (l : List ℤ) (c n tree m w : ℕ) (p : Written) {q : Written} → q ≡ partedRow tree w p
+    → PartedTo c n tree (suc m) w (withLevels l p) (withLevels l (partedRows tree m (suc w) q)) → PartedTo c n tree (suc m) w (withLevels l p) (withLevels l (partedRows tree (suc m) w p))
 unfolding partedRows
-parts-alone c n tree zero w p l f = record {
+on-row l c n tree m w p e k = subst (λ (q : Written). PartedTo c n tree (suc m) w (withLevels l p) (withLevels l (partedRows tree m (suc w) q))) e k
+
+parts-alone : (l : List ℤ) (c n tree m w : ℕ) (p : Written) → w + m ≤ c → Fits c (withLevels l p) → PartedTo c n tree m w (withLevels l p) (withLevels l (partedRows tree m w p))
+unfolding partedRows
+parts-alone v c n tree zero w p l f = record {
   fit = f;
   levels = refl;
   marks = λ y j e. refl;
@@ -180,25 +188,25 @@ parts-alone c n tree zero w p l f = record {
   low = λ y i. kept-same;
   off = λ y d. kept-same;
 }
-parts-alone c n tree (suc m) w p l f = elim (ℕ-discrete (entryAt (p .ancestors) w treePlace) tree) [
+parts-alone v c n tree (suc m) w p l f = elim (ℕ-discrete (entryAt (p .ancestors) w treePlace) tree) [
   | yes e ↦
       let i : w < c = omega arith in
-      let k = parts-alone c n tree m (suc w) (lonely p w) (omega arith) (lone-fits p f w i) in
-      let same : (y : ℕ) → y ≢ w → Kept (tableOf p n) (tableOf (lonely p w) n) y = λ y d. stays p f w i n y d in
-      rw (says-true (says-eqb (entryAt (p .ancestors) w treePlace) tree) e) record {
+      let k = parts-alone v c n tree m (suc w) (lonely p w) (omega arith) (lone-fits (withLevels v p) f w i) in
+      let same : (y : ℕ) → y ≢ w → Kept (tableOf (withLevels v p) n) (tableOf (withLevels v (lonely p w)) n) y = λ y d. stays (withLevels v p) f w i n y d in
+      on-row v c n tree m w p (tree-parted tree w p _ _ _ refl e refl refl refl) record {
         fit = k .fit;
         levels = k .levels;
-        marks = λ y j o. k .marks y j o ∙ lone-marks p f w i y j o;
+        marks = λ y j o. k .marks y j o ∙ lone-marks (withLevels v p) f w i y j o;
         on = λ y a b o. elim (ℕ-discrete y w) [
-          | yes z ↦ rw z (lone-kept (stands-alone p f w i n) (k .low w (omega arith)))
+          | yes z ↦ rw z (lone-kept (stands-alone (withLevels v p) f w i n) (k .low w (omega arith)))
           | no d ↦ k .on y (omega arith) (omega arith) (same y d .sameEntry treePlace (omega arith) ∙ o)
         ];
         low = λ y a. kept-trans (same y (λ z. omega arith)) (k .low y (omega arith));
         off = λ y d. let o : y ≢ w = λ z. d (rw z e) in kept-trans (same y o) (k .off y (λ z. d (sym (same y o .sameEntry treePlace (omega arith)) ∙ z)));
       }
   | no d ↦
-      let k = parts-alone c n tree m (suc w) p (omega arith) f in
-      rw (says-false (says-eqb (entryAt (p .ancestors) w treePlace) tree) d) record {
+      let k = parts-alone v c n tree m (suc w) p (omega arith) f in
+      on-row v c n tree m w p (other-parted tree w p refl d) record {
         fit = k .fit;
         levels = k .levels;
         marks = k .marks;
@@ -239,14 +247,17 @@ module _ {c : ℕ} {p : Parts} {n x v door : ℕ} (r : Rules c (tableOf p n)) (f
   k₂ = turns was room n f₁ (λ y. fieldAt f₁ y rootPlace) x v (h .inUse) (k₁ .holds)
       (λ y l. k₁ .rest y parentPlace (omega arith) (λ e. omega arith)) (λ y. refl)
 
+  abbrev w₂ : Written
+  w₂ = written (turnedLine n f₁ x v) (p .numbers) (p .ancestors)
+
   abbrev p₂ : Parts
-  p₂ = partsOf (turnedLine n f₁ x v) (p .numbers) (p .levels) (p .ancestors)
+  p₂ = withLevels (p .levels) w₂
 
   fit₂ : Fits c p₂
   fit₂ = record { least = fit .least; most = fit .most; levels = fit .levels; fields = k₂ .holds .long; numbers = fit .numbers; ancestors = fit .ancestors }
 
-  k₃ : PartedTo c n tree n 0 p₂ (partedRows tree n 0 p₂)
-  k₃ = parts-alone c n tree n 0 p₂ (omega (arith, room)) fit₂
+  k₃ : PartedTo c n tree n 0 p₂ (withLevels (p .levels) (partedRows tree n 0 w₂))
+  k₃ = parts-alone (p .levels) c n tree n 0 w₂ (omega (arith, room)) fit₂
 
   same : (y j : ℕ) → j < fieldStride → j ≢ rootPlace → fieldAt (turnedLine n f₁ x v) y j ≡ fieldAt (p .fields) y j
   same y j i d = k₂ .rest y j i d ∙ k₁ .rest y j i d
@@ -290,7 +301,7 @@ module _ {c : ℕ} {p : Parts} {n x v door : ℕ} (r : Rules c (tableOf p n)) (f
   ]
 
   pub detached-is : Detached c p (detached p n tree x v) n x v
-  unfolding detached turnedFields
+  unfolding detached detachedFrom turnedFields
   detached-is = record {
     fit = k₃ .fit;
     parted = record {
