@@ -1,43 +1,94 @@
 // Growth of the engine's table and of the plain list side by side, with an inspection after each.
 use crate::random::next;
-use crate::shape::is_root;
+use crate::shape::Kind;
+use crate::shape::kind_of;
 use crate::shape::label;
+use crate::shape::named;
 use crate::shape::parent;
 use crate::tally::Tally;
 use crate::tally::noted;
 use crate::tree::Tree;
+use crate::tree::full_refusal;
 use crate::tree::leaf_refusal;
-use crate::tree::root_refusal;
+use crate::tree::over_refusal;
+use crate::tree::root_in;
+use crate::tree::with_first;
 use crate::tree::with_leaf;
+use crate::tree::with_over;
 use crate::tree::with_root;
 use growth::Grown;
 use growth::Growth;
+use growth::add_first;
 use growth::add_leaf;
 use growth::add_root;
+use growth::add_root_over;
 use inspect::Inspected;
 use inspect::inspect;
 use rows::refusal::number_of;
 use rows::state::State;
 
-// Both sides, and the rows renumbered so far.
+// Both sides, and the rows renumbered and the joinings so far.
 pub struct Run {
     pub state: State,
     pub tree: Tree,
     pub tally: Tally,
     pub total: u64,
+    pub joinings: u64,
     pub seed: u64,
 }
 
-fn plus(total: u64, rows: u16) -> u64 {
+fn plus(total: u64, more: u64) -> u64 {
     if total < 1000000000 {
-        total + rows as u64
-    } else {
-        total
+        if more < 1000000000 {
+            return total + more;
+        }
+    }
+    total
+}
+
+// At most 120 rows to a joining.
+fn is_paid(total: u64, joinings: u64) -> bool {
+    if 1000000000 <= joinings {
+        return false;
+    }
+    total <= 120 * joinings
+}
+
+// The run after a call that was refused.
+fn refused(run: Run, equal: bool, letter: u8, x: u16, y: u16) -> Run {
+    let tally = run.tally;
+    let mut r = run;
+    r.tally = noted(tally, equal, letter, x, y);
+    r
+}
+
+// The run after a call that was served: so many nodes joined, and so many rows were renumbered.
+fn served(
+    run: Run,
+    state: State,
+    after: Tree,
+    rows: u64,
+    joined: u64,
+    equal: bool,
+    letter: u8,
+    x: u16,
+    y: u16,
+) -> Run {
+    let tally = run.tally;
+    let total = plus(run.total, rows);
+    let joinings = plus(run.joinings, joined);
+    Run {
+        state: state,
+        tree: after,
+        tally: noted(tally, equal && is_paid(total, joinings), letter, x, y),
+        total: total,
+        joinings: joinings,
+        seed: run.seed,
     }
 }
 
-// Whether a served growth is the plain list's, and paid for: at most 120 rows to a node.
-fn is_growth(before: Tree, after: Tree, refusal: u16, total: u64, found: Growth) -> bool {
+// Whether a served growth is the plain list's.
+fn is_growth(before: Tree, after: Tree, refusal: u16, found: Growth) -> bool {
     let s = found.state;
     if refusal != 0 {
         return false;
@@ -45,13 +96,7 @@ fn is_growth(before: Tree, after: Tree, refusal: u16, total: u64, found: Growth)
     if found.node != before.count {
         return false;
     }
-    if s.count != after.count {
-        return false;
-    }
-    if s.root != after.root {
-        return false;
-    }
-    total <= 120 * (s.count as u64)
+    s.count == after.count
 }
 
 // The run after a growth; `refusal` is the plain list's, `after` its tree where it serves.
@@ -64,35 +109,29 @@ fn after_growth(
     x: u16,
     y: u16,
 ) -> Run {
-    let state = run.state;
     let before = run.tree;
-    let tally = run.tally;
     match found {
-        Grown::Refused(r) => Run {
-            state: state,
-            tree: before,
-            tally: noted(tally, number_of(r) == refusal, letter, x, y),
-            total: run.total,
-            seed: run.seed,
-        },
+        Grown::Refused(r) => refused(run, number_of(r) == refusal, letter, x, y),
         Grown::Node(g) => {
-            let total = plus(run.total, g.rows);
-            let grown = g.state;
-            Run {
-                state: grown,
-                tree: after,
-                tally: noted(
-                    tally,
-                    is_growth(before, after, refusal, total, g),
-                    letter,
-                    x,
-                    y,
-                ),
-                total: total,
-                seed: run.seed,
-            }
+            let state = g.state;
+            let equal = is_growth(before, after, refusal, g);
+            served(run, state, after, g.rows as u64, 1, equal, letter, x, y)
         }
     }
+}
+
+fn grow_first(
+    fields: &mut [u16],
+    numbers: &mut [u64],
+    levels: &mut [i32],
+    ancestors: &mut [u16],
+    scratch: &[u16],
+    run: Run,
+) -> Run {
+    let state = run.state;
+    let tree = run.tree;
+    let found = add_first(fields, numbers, levels, ancestors, scratch, state);
+    after_growth(run, full_refusal(tree), with_first(tree), found, b'F', 0, 0)
 }
 
 fn grow_leaf(
@@ -130,7 +169,30 @@ fn grow_root(
     let state = run.state;
     let tree = run.tree;
     let found = add_root(fields, numbers, levels, ancestors, scratch, state);
-    after_growth(run, root_refusal(tree), with_root(tree), found, b'T', 0, 0)
+    after_growth(run, full_refusal(tree), with_root(tree), found, b'T', 0, 0)
+}
+
+fn grow_over(
+    fields: &mut [u16],
+    numbers: &mut [u64],
+    levels: &mut [i32],
+    ancestors: &mut [u16],
+    scratch: &[u16],
+    run: Run,
+    x: u16,
+) -> Run {
+    let state = run.state;
+    let tree = run.tree;
+    let found = add_root_over(fields, numbers, levels, ancestors, scratch, state, x);
+    after_growth(
+        run,
+        over_refusal(tree, x),
+        with_over(tree, x),
+        found,
+        b'O',
+        x,
+        0,
+    )
 }
 
 // The growth of one turn.
@@ -150,20 +212,27 @@ fn grow(
     let third = next(second);
     let mut r = run;
     r.seed = third;
-    if is_root(shape, turn, first) {
-        return grow_root(fields, numbers, levels, ancestors, scratch, r);
-    }
     let x = parent(shape, tree.count, first, second);
-    grow_leaf(
-        fields,
-        numbers,
-        levels,
-        ancestors,
-        scratch,
-        r,
-        x,
-        label(turn, third),
-    )
+    match kind_of(shape, turn, first) {
+        Kind::First => grow_first(fields, numbers, levels, ancestors, scratch, r),
+        Kind::Root => grow_root(fields, numbers, levels, ancestors, scratch, r),
+        Kind::Over => {
+            let over = named(root_in(tree, x), x, third);
+            grow_over(fields, numbers, levels, ancestors, scratch, r, over)
+        }
+        Kind::Leaf => {
+            grow_leaf(
+                fields,
+                numbers,
+                levels,
+                ancestors,
+                scratch,
+                r,
+                x,
+                label(turn, third),
+            )
+        }
+    }
 }
 
 fn passes(found: Inspected) -> bool {

@@ -15,7 +15,7 @@ pub fn minus(a: u16, b: u16) -> u16 {
     if b <= a { a - b } else { 0 }
 }
 
-// How many steps lead from x to the root.
+// How many steps lead from x to its root.
 pub fn depth(parents: &[u16], x: u16) -> u16 {
     let mut at = of(parents, x);
     let mut steps: u16 = 0;
@@ -38,6 +38,11 @@ pub fn climb(parents: &[u16], x: u16, steps: u16) -> u16 {
         k += 1;
     }
     at
+}
+
+// The root of x's tree.
+pub fn root_of(parents: &[u16], x: u16) -> u16 {
+    climb(parents, x, depth(parents, x))
 }
 
 // Where the lines of x and y, equally deep, meet.
