@@ -26,9 +26,13 @@ joinedUnder p n z v label =
     (λ level. storedAs p n (plannedRow (p .fields) (p .numbers) (p .levels) n z v level label none))
     (stored p 0)
 
--- row z of a tree whose root x is linked at a door
+-- the label of row z: `door`, the label that a linked root takes, where z is that root x, else its own
+abbrev pub labelFor : List ℕ → ℕ → ℕ → ℕ → ℕ
+labelFor f x door z = pick (eqb z x) door (fieldAt f z labelPlace)
+
+-- row z of a tree whose root x is linked
 unfoldable pub joinRow : Parts → ℕ → ℕ → ℕ → ℕ → Stored
-joinRow p n x door z = joinedUnder p n z (fieldAt (p .fields) z rootPlace) (pick (eqb z x) door (fieldAt (p .fields) z labelPlace))
+joinRow p n x door z = joinedUnder p n z (fieldAt (p .fields) z rootPlace) (labelFor (p .fields) x door z)
 
 -- the rows of a list, one after another, and the rows renumbered, added up
 unfoldable pub joinAll : Parts → ℕ → ℕ → ℕ → List ℕ → Stored

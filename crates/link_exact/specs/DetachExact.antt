@@ -32,9 +32,11 @@ use Rattle.growth_exact.specs.LoneExact.{lone-fits, stands-alone, stays, lone-m
 use Rattle.growth_laws.specs.Lone.{Lone, Kept, Parted}
 use Rattle.numbering.specs.Numbered.{shape, storedTree}
 use Rattle.numbering.specs.TreeEntry.{entry-first}
-use Rattle.link_laws.specs.Link.{isOfTree, target, Linkable}
+use Rattle.link_laws.specs.Link.{target, Linkable}
+use Rattle.link_laws.specs.Order.{isOfTree}
 use Rattle.link_exact.specs.LinkExact.{Detached}
-use Rattle.link.specs.Detach.{keptParents, turnedLine, lonely, partedRows, turnedFields, detached}
+use Rattle.renumber.specs.NumberWalk.{Written, written}
+use Rattle.link.specs.Detach.{keptParent, keptParents, turnedLine, lonely, partedRow, partedRows, turnedFields, detachedFrom, withLevels, detached}
 
 -- Stored parents kept as roots
 
@@ -46,7 +48,7 @@ record Keeps (a : List ℕ) (tree c m w : ℕ) (f g : List ℕ) : Type 0 where
   off : (y : ℕ) → y < c → entryAt a y treePlace ≢ tree → fieldAt g y rootPlace ≡ fieldAt f y rootPlace
 
 keeps : (a : List ℕ) (tree c m w : ℕ) (f : List ℕ) → w + m ≤ c → Holds fieldStride c f → Keeps a tree c m w f (keptParents a tree m w f)
-unfolding keptParents
+unfolding keptParents keptParent
 keeps a tree c zero w f l h = record { holds = h; rest = λ y j i d. refl; on = λ y i j e. absurd (omega arith); low = λ y i. refl; off = λ y i d. refl }
 keeps a tree c (suc m) w f l h = elim (ℕ-discrete (entryAt a w treePlace) tree) [
   | yes e ↦
@@ -87,7 +89,7 @@ record Turns (c : ℕ) (up : ℕ → ℕ) (k z under : ℕ) (col : ℕ → ℕ) 
 module _ {c n : ℕ} {up rank : ℕ → ℕ} (t : Forest up rank n) (room : n ≤ c) where
   turns : (k : ℕ) (f : List ℕ) (col : ℕ → ℕ) (z under : ℕ) → z < n → Holds fieldStride c f → ((y : ℕ) → y < n → fieldAt f y parentPlace ≡ up y)
       → ((y : ℕ) → fieldAt f y rootPlace ≡ col y) → Turns c up k z under col f (turnedLine k f z under)
-  unfolding turnedLine put
+  unfolding turnedLine
   turns zero f col z under l h u s = record {
     holds = holds-set h _ _;
     rest = λ y j i d. set-other h z rootPlace under (omega arith) y j i d;
@@ -100,7 +102,7 @@ module _ {c n : ℕ} {up rank : ℕ → ℕ} (t : Forest up rank n) (room : n �
       root = λ y. rw (says-true (says-eqb (up z) none) e) (set-same h z rootPlace under (omega arith) (omega arith) col y (s y));
     }
     | no d ↦
-        let q = turns k (withField f z rootPlace under) (λ y. pick (eqb y z) under (col y)) (up z) z (t .inside z l d) (holds-set h _ _)
+        let q = turns k (withField f z rootPlace under) (put col z under) (up z) z (t .inside z l d) (holds-set h _ _)
         (λ y i. set-other h z rootPlace under (omega arith) y parentPlace (omega arith) (λ e. omega arith) ∙ u y i)
         (λ y. set-same h z rootPlace under (omega arith) (omega arith) col y (s y)) in
         rw (u z l, says-false (says-eqb (up z) none) d) record {
@@ -161,7 +163,7 @@ kept-same = record {
 }
 
 -- the m rows from w on have been looked at: those of the tree stand alone, the others are as they were; labels, levels and roots stay
-record Parts2 (c n tree m w : ℕ) (p q : Parts) : Type 0 where
+record PartedTo (c n tree m w : ℕ) (p q : Parts) : Type 0 where
   fit : Fits c q
   levels : q .levels ≡ p .levels
   marks : (y j : ℕ) → (j ≡ labelPlace) ⊎ (j ≡ rootPlace) → fieldAt (q .fields) y j ≡ fieldAt (p .fields) y j
@@ -169,9 +171,9 @@ record Parts2 (c n tree m w : ℕ) (p q : Parts) : Type 0 where
   low : (y : ℕ) → y < w → Kept (tableOf p n) (tableOf q n) y
   off : (y : ℕ) → entryAt (p .ancestors) y treePlace ≢ tree → Kept (tableOf p n) (tableOf q n) y
 
-parts-alone : (c n tree m w : ℕ) (p : Parts) → w + m ≤ c → Fits c p → Parts2 c n tree m w p (partedRows tree m w p)
-unfolding partedRows
-parts-alone c n tree zero w p l f = record {
+parts-alone : (l : List ℤ) (c n tree m w : ℕ) (p : Written) → w + m ≤ c → Fits c (withLevels l p) → PartedTo c n tree m w (withLevels l p) (withLevels l (partedRows tree m w p))
+unfolding partedRows partedRow
+parts-alone v c n tree zero w p l f = record {
   fit = f;
   levels = refl;
   marks = λ y j e. refl;
@@ -179,24 +181,24 @@ parts-alone c n tree zero w p l f = record {
   low = λ y i. kept-same;
   off = λ y d. kept-same;
 }
-parts-alone c n tree (suc m) w p l f = elim (ℕ-discrete (entryAt (p .ancestors) w treePlace) tree) [
+parts-alone v c n tree (suc m) w p l f = elim (ℕ-discrete (entryAt (p .ancestors) w treePlace) tree) [
   | yes e ↦
       let i : w < c = omega arith in
-      let k = parts-alone c n tree m (suc w) (lonely p w) (omega arith) (lone-fits p f w i) in
-      let same : (y : ℕ) → y ≢ w → Kept (tableOf p n) (tableOf (lonely p w) n) y = λ y d. stays p f w i n y d in
+      let k = parts-alone v c n tree m (suc w) (lonely p w) (omega arith) (lone-fits (withLevels v p) f w i) in
+      let same : (y : ℕ) → y ≢ w → Kept (tableOf (withLevels v p) n) (tableOf (withLevels v (lonely p w)) n) y = λ y d. stays (withLevels v p) f w i n y d in
       rw (says-true (says-eqb (entryAt (p .ancestors) w treePlace) tree) e) record {
         fit = k .fit;
         levels = k .levels;
-        marks = λ y j o. k .marks y j o ∙ lone-marks p f w i y j o;
+        marks = λ y j o. k .marks y j o ∙ lone-marks (withLevels v p) f w i y j o;
         on = λ y a b o. elim (ℕ-discrete y w) [
-          | yes z ↦ rw z (lone-kept (stands-alone p f w i n) (k .low w (omega arith)))
+          | yes z ↦ rw z (lone-kept (stands-alone (withLevels v p) f w i n) (k .low w (omega arith)))
           | no d ↦ k .on y (omega arith) (omega arith) (same y d .sameEntry treePlace (omega arith) ∙ o)
         ];
         low = λ y a. kept-trans (same y (λ z. omega arith)) (k .low y (omega arith));
         off = λ y d. let o : y ≢ w = λ z. d (rw z e) in kept-trans (same y o) (k .off y (λ z. d (sym (same y o .sameEntry treePlace (omega arith)) ∙ z)));
       }
   | no d ↦
-      let k = parts-alone c n tree m (suc w) p (omega arith) f in
+      let k = parts-alone v c n tree m (suc w) p (omega arith) f in
       rw (says-false (says-eqb (entryAt (p .ancestors) w treePlace) tree) d) record {
         fit = k .fit;
         levels = k .levels;
@@ -238,14 +240,17 @@ module _ {c : ℕ} {p : Parts} {n x v door : ℕ} (r : Rules c (tableOf p n)) (f
   k₂ = turns was room n f₁ (λ y. fieldAt f₁ y rootPlace) x v (h .inUse) (k₁ .holds)
       (λ y l. k₁ .rest y parentPlace (omega arith) (λ e. omega arith)) (λ y. refl)
 
+  abbrev w₂ : Written
+  w₂ = written (turnedLine n f₁ x v) (p .numbers) (p .ancestors)
+
   abbrev p₂ : Parts
-  p₂ = partsOf (turnedLine n f₁ x v) (p .numbers) (p .levels) (p .ancestors)
+  p₂ = withLevels (p .levels) w₂
 
   fit₂ : Fits c p₂
   fit₂ = record { least = fit .least; most = fit .most; levels = fit .levels; fields = k₂ .holds .long; numbers = fit .numbers; ancestors = fit .ancestors }
 
-  k₃ : Parts2 c n tree n 0 p₂ (partedRows tree n 0 p₂)
-  k₃ = parts-alone c n tree n 0 p₂ (omega (arith, room)) fit₂
+  k₃ : PartedTo c n tree n 0 p₂ (withLevels (p .levels) (partedRows tree n 0 w₂))
+  k₃ = parts-alone (p .levels) c n tree n 0 w₂ (omega (arith, room)) fit₂
 
   same : (y j : ℕ) → j < fieldStride → j ≢ rootPlace → fieldAt (turnedLine n f₁ x v) y j ≡ fieldAt (p .fields) y j
   same y j i d = k₂ .rest y j i d ∙ k₁ .rest y j i d
@@ -289,7 +294,7 @@ module _ {c : ℕ} {p : Parts} {n x v door : ℕ} (r : Rules c (tableOf p n)) (f
   ]
 
   pub detached-is : Detached c p (detached p n tree x v) n x v
-  unfolding detached turnedFields
+  unfolding detached detachedFrom turnedFields
   detached-is = record {
     fit = k₃ .fit;
     parted = record {

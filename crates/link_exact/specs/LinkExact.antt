@@ -26,8 +26,9 @@ use Rattle.numbering.specs.LevelLaws.{treeParent, plain-tree, parent-in}
 use Rattle.numbering.specs.SoundRows.{level-depth}
 use Rattle.growth_laws.specs.Lone.{Lone, Parted}
 use Rattle.growth_laws.specs.LoneLaws.{parted-numbered}
-use Rattle.link_laws.specs.Link.{isOfTree, target, labelled, Linkable, Order, Linked}
-use Rattle.link_laws.specs.OrderLaws.{linkOrder, link-ordered, some, in-x}
+use Rattle.link_laws.specs.Link.{target, labelled, Linkable, Linked}
+use Rattle.link_laws.specs.Order.{isOfTree, Order}
+use Rattle.link_laws.specs.OrderLaws.{linkOrder, link-ordered, order-once, order-before, some, in-x}
 use Rattle.link.specs.JoinRow.{joinAll}
 use Rattle.link_exact.specs.JoinsExact.{Waits, Joined, joins-exact}
 
@@ -65,7 +66,7 @@ module _ {c : ℕ} {p p₁ : Parts} {n x v door : ℕ} (r : Rules c (tableOf p n
   num₁ : Numbered t₁
   num₁ = parted-numbered num (k .parted)
 
-  order : Order t x v (linkOrder t x)
+  order : Order t x (linkOrder t x)
   order = link-ordered r (fit .most) h
 
   moved : (w : ℕ) → first t w ≡ first t x → isOfTree t x w ≡ true
@@ -95,7 +96,7 @@ module _ {c : ℕ} {p p₁ : Parts} {n x v door : ℕ} (r : Rules c (tableOf p n
   }
 
   joined : Joined c p₁ (joinAll p₁ n x door (linkOrder t x) .parts) n (target t x v) (labelled t x door) (linkOrder t x) (joinAll p₁ n x door (linkOrder t x) .given)
-  joined = joins-exact x door (linkOrder t x) waits (order .once) (order .before)
+  joined = joins-exact x door (linkOrder t x) waits (order-once r (fit .most) h order) (order-before r (fit .most) h order)
 
   pub link-fits : Fits c (joinAll p₁ n x door (linkOrder t x) .parts)
   link-fits = joined .fits

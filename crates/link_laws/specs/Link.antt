@@ -1,23 +1,16 @@
 -- A whole tree is linked, by its root, under a row of another tree (02, "Coupled rooms").
 use mathlib.Core.Path.{_≡_}
-use mathlib.Core.Bool.{Bool, false}
 use mathlib.Core.Logic.{_≢_}
 use mathlib.Core.List.{List}
 use Prim.Native.Nat.{ℕ, _≤_, _<_}
 use lib.Dec.{eqb}
 use Rattle.laws.specs.Test.{pick}
-use Rattle.tree_laws.specs.ChildLinks.{Member}
-use Rattle.tree_laws.specs.Chains.{Once}
 use Rattle.rows.specs.Table.{Table, label, level}
 use Rattle.rows.specs.PlainTree.{first, root, plain}
 use Rattle.rows.specs.StoredTree.{labelLimit}
 use Rattle.growth_laws.specs.Lone.{Parted}
 use Rattle.link_laws.specs.Joinings.{Joinings}
-use Rattle.link_laws.specs.JoiningsLaws.{Before}
-
--- row w stands in the tree of x
-abbrev pub isOfTree : Table → ℕ → ℕ → Bool
-isOfTree t x w = eqb (first t w) (first t x)
+use Rattle.link_laws.specs.Order.{isOfTree, Order}
 
 -- the row that w comes under: its plain parent, and v for the linked root
 abbrev pub target : Table → ℕ → ℕ → ℕ → ℕ
@@ -36,15 +29,7 @@ pub record Linkable (t : Table) (x v door : ℕ) : Type 0 where
   pub least : 1 ≤ door
   pub most : door ≤ labelLimit
 
--- the rows of the tree of x, each once, targets first
-pub record Order (t : Table) (x v : ℕ) (zs : List ℕ) : Type 0 where
-  pub inside : (w : ℕ) → Member zs w → w < t .count
-  pub moved : (w : ℕ) → Member zs w → first t w ≡ first t x
-  pub all : (w : ℕ) → w < t .count → first t w ≡ first t x → Member zs w
-  pub once : Once zs
-  pub before : Before (target t x v) zs
-
--- t becomes d: the rows of the tree of x are parted, and join in an order; k rows are renumbered, added up
+-- t becomes d: the rows of the tree of x are parted, and join in their order; k rows are renumbered, added up
 pub record Linked (t d : Table) (x v door k : ℕ) : Type 0 where
   pub linkable : Linkable t x v door
   pub apart : Table
@@ -53,7 +38,7 @@ pub record Linked (t d : Table) (x v door k : ℕ) : Type 0 where
   pub labels : (w : ℕ) → w < t .count → label apart w ≡ label t w
   pub levels : (w : ℕ) → w < t .count → first t w ≢ first t x → level apart w ≡ level t w
   pub order : List ℕ
-  pub ordered : Order t x v order
+  pub ordered : Order t x order
   pub joins : Joinings (target t x v) (labelled t x door) apart d order k
   pub roots : (f : ℕ) → f < t .count → first t f ≢ first t x → d .root f ≡ t .root f
 

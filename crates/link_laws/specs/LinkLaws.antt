@@ -22,8 +22,10 @@ use Rattle.growth_laws.specs.LoneLaws.{parted-numbered, parted-lag}
 use Rattle.growth_laws.specs.Older.{Older}
 use Rattle.growth_laws.specs.Trees.{own-trees, stored}
 use Rattle.link_laws.specs.Joinings.{Joinings}
-use Rattle.link_laws.specs.JoiningsLaws.{joinings-numbered, joinings-pay, joinings-count, joinings-rest, Came, joinings-came}
-use Rattle.link_laws.specs.Link.{isOfTree, target, labelled, Linkable, Order, Linked, PlainLink}
+use Rattle.link_laws.specs.JoiningsLaws.{joinings-numbered, joinings-pay, joinings-count, joinings-rows, joinings-rest, Came, joinings-came}
+use Rattle.link_laws.specs.Link.{target, labelled, Linkable, Linked, PlainLink}
+use Rattle.link_laws.specs.Order.{isOfTree, treeRows}
+use Rattle.link_laws.specs.OrderLaws.{order-once, order-before, order-length}
 
 module _ {capacity : ℕ} {t d : Table} {x v door k : ℕ} (r : Rules capacity t) (small : capacity ≤ capacityLimit) (q : Linked t d x v door k) where
   apart-numbered : Numbered (q .apart)
@@ -53,7 +55,7 @@ module _ {capacity : ℕ} {t d : Table} {x v door k : ℕ} (r : Rules capacity t
   stays-up {a} {w} p h = record { inside = anc-in was (p .inside) h; other = λ e. p .other (sym (top-anc was (p .inside) h) ∙ e) }
 
   came : {w : ℕ} → w < t .count → first t w ≡ first t x → Came (target t x v) (labelled t x door) d w
-  came {w} l e = joinings-came (q .joins) (q .ordered .once) (q .ordered .before) w (q .ordered .all w l e)
+  came {w} l e = joinings-came (q .joins) (order-once r small (q .linkable) (q .ordered)) (order-before r small (q .linkable) (q .ordered)) w (q .ordered .all w l e)
 
   -- a row of the linked tree joined as a leaf
   label-most : {w : ℕ} → w < t .count → labelled t x door w ≤ labelLimit
@@ -112,8 +114,12 @@ module _ {capacity : ℕ} {t d : Table} {x v door k : ℕ} (r : Rules capacity t
   }
 
   -- the rows renumbered are paid for by the lag and 120 for each row that joined
-  pub link-pays : worth * lag d + k ≤ worth * lag t + perJoin * length (q .order)
-  link-pays = omega (arith, joinings-pay apart-numbered (q .joins), parted-lag (numbered r small) (q .parted))
+  pub link-pays : worth * lag d + k ≤ worth * lag t + perJoin * treeRows t x
+  link-pays = omega (arith, joinings-pay apart-numbered (q .joins), parted-lag (numbered r small) (q .parted), order-length r small (q .linkable) (q .ordered))
 
-  pub total-kept : (total joinings : ℕ) → Paid t total joinings → Paid d (total + k) (joinings + length (q .order))
+  -- and no more than all rows in use for each
+  pub link-rows : k ≤ treeRows t x * t .count
+  link-rows = rw (order-length r small (q .linkable) (q .ordered), q .count) at (joinings-rows (q .joins))
+
+  pub total-kept : (total joinings : ℕ) → Paid t total joinings → Paid d (total + k) (joinings + treeRows t x)
   total-kept total joinings p = omega (arith, link-pays)

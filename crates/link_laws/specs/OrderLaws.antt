@@ -1,34 +1,42 @@
--- The order in which the rows of a linked tree join: by their depth in its plain tree, and by number.
-use mathlib.Core.Path.{_≡_, refl, ap, sym, _∙_}
+-- The rows of a linked tree listed by their depth below its root, and by number, stand in their order; in that order each stands once, and after its target.
+use mathlib.Core.Path.{_≡_, refl, ap, sym, subst, _∙_}
 use mathlib.Core.Bool.{true}
 use mathlib.Core.Logic.{_⊎_, inl, inr, _≢_}
-use mathlib.Core.List.{List}
-use Prim.Native.Nat.{ℕ, _+_, _≤_, _<_}
+use mathlib.Core.List.{List, [], _∷_}
+use Prim.Native.Nat.{ℕ, suc, _+_, _-_, _≤_, _<_}
 use native.Mathlib.Decide.{ℕ-discrete}
 use native.Mathlib.Omega.{arith}
 use lib.Dec.{eqb}
-use Rattle.laws.specs.Test.{pick, says-true, says-false, says-eqb, says-get}
+use lib.ListN.{length}
+use Rattle.laws.specs.Sum.{countTo, sum-eq}
+use Rattle.laws.specs.Test.{pick, bit, says-true, says-false, says-eqb, says-get, says-eq}
 use Rattle.tree_laws.specs.Ancestor.{none, Anc, Forest}
 use Rattle.tree_laws.specs.AncestorLaws.{cases}
-use Rattle.tree_laws.specs.Depth.{Depth}
+use Rattle.tree_laws.specs.ChildLinks.{Member}
+use Rattle.tree_laws.specs.Chains.{Once, isIn, says-in, once-count}
+use Rattle.tree_laws.specs.Depth.{Depth, Steps, arrived, step}
+use Rattle.tree_laws.specs.DepthLaws.{steps-depth, anc-steps}
 use Rattle.tree_laws.specs.PlainDepthLaws.{plain-depth}
-use Rattle.tree_laws.specs.RerootLaws.{plain-root-over}
+use Rattle.tree_laws.specs.Reroot.{PlainParent, root as top}
+use Rattle.tree_laws.specs.RerootLaws.{plain-is, plain-root-over}
 use Rattle.tree_laws.specs.SizeDepth.{depth-below}
 use Rattle.rows.specs.Capacity.{capacityLimit}
 use Rattle.rows.specs.Table.{Table, parent, depth}
 use Rattle.rows.specs.PlainTree.{first, root, plain}
 use Rattle.rows.specs.Rules.{Rules, Numbered, numbered}
-use Rattle.numbering.specs.Numbered.{shape, storedTree, InTree, in-tree, stored-kindred}
+use Rattle.numbering.specs.Numbered.{shape, storedTree, InTree, in-tree, first-is, stored-kindred}
 use Rattle.numbering.specs.Lines.{root-in}
-use Rattle.numbering.specs.LevelLaws.{treeParent, treeDepth, plain-tree}
-use Rattle.link_laws.specs.Levels.{levelsFrom, Of, levels-of, of-levels, levels-once, levels-before}
-use Rattle.link_laws.specs.Link.{isOfTree, target, Linkable, Order}
+use Rattle.numbering.specs.LevelLaws.{treeParent, treeDepth, plain-tree, parent-in}
+use Rattle.link_laws.specs.JoiningsLaws.{Before}
+use Rattle.link_laws.specs.Levels.{levelsFrom, Of, levels-of, of-levels, levels-rise}
+use Rattle.link_laws.specs.Link.{target, Linkable}
+use Rattle.link_laws.specs.Order.{isOfTree, treeRows, Precedes, Rises, Order}
 
 -- how deep row w lies below x in the plain tree of x
 abbrev pub depthUnder : Table → ℕ → ℕ → ℕ
 depthUnder t x = treeDepth t (first t x)
 
--- the rows of the tree of x, level by level
+-- the rows of the tree of x, depth by depth
 abbrev pub linkOrder : Table → ℕ → List ℕ
 linkOrder t x = levelsFrom (isOfTree t x) (depthUnder t x) (t .count) 0 (t .count)
 
@@ -42,30 +50,50 @@ module _ {capacity : ℕ} {t : Table} {x v door : ℕ} (r : Rules capacity t) (s
   root-use : t .root (first t x) < t .count
   root-use = root-in r small (in-tree num x (h .inUse)) .inUse
 
-  deep : Depth (treeParent t (first t x)) (depthUnder t x) (t .count)
+  pub deep : Depth (treeParent t (first t x)) (depthUnder t x) (t .count)
   deep = plain-depth (shape num) root-use
+
+  over : {w : ℕ} → InTree t (first t x) w → Anc (treeParent t (first t x)) x w
+  over {w} i = subst (λ (a : ℕ). Anc (treeParent t (first t x)) a w) (h .isRoot)
+      (plain-root-over (storedTree num) root-use (i .inUse) (stored-kindred num i (root-in r small i)))
 
   -- a linked row other than x has a plain parent, one level above
   pub some : {w : ℕ} → w < t .count → first t w ≡ first t x → w ≢ x → treeParent t (first t x) w ≢ none
-  some {w} l e n z =
-      let i = in-x l e in
-      elim (cases (plain-root-over (storedTree num) root-use l (stored-kindred num i (root-in r small i)))) [
-        | inl y ↦ n (sym y ∙ h .isRoot)
-        | inr s ↦ s .0 z
-      ]
+  some {w} l e n z = elim (cases (over (in-x l e))) [ inl y ↦ n (sym y) | inr s ↦ s .0 z ]
+
+  -- Depths below x count steps in the plain tree
+
+  steps-plain : {a k w : ℕ} → InTree t (first t x) w → Steps (treeParent t (first t x)) a k w → Steps (plain t) a k w
+  steps-plain i arrived = arrived
+  steps-plain {a} {w = w} i (step {k = k} d s) =
+      let e : plain t w ≡ treeParent t (first t x) w = plain-tree r small i in
+      let rest : Steps (plain t) a k (treeParent t (first t x) w) = steps-plain (parent-in r small i d) s in
+      step {k = k} (λ z. d (sym e ∙ z)) (rw (← e) at rest)
+
+  plain-steps : {a k y : ℕ} (w : ℕ) → y ≡ w → InTree t (first t x) w → Steps (plain t) a k y → Steps (treeParent t (first t x)) a k w
+  plain-steps w e i arrived = rw (← e) arrived
+  plain-steps w e i (step {k = k} d s) =
+      let f : plain t w ≡ treeParent t (first t x) w = plain-tree r small i in
+      let d′ : treeParent t (first t x) w ≢ none = λ z. d (ap (plain t) e ∙ f ∙ z) in
+      step {k = k} d′ (plain-steps (treeParent t (first t x) w) (ap (plain t) e ∙ f) (parent-in r small i d′) s)
+
+  root-top : depthUnder t x x ≡ 0
+  root-top = deep .root x (h .inUse) (plain-is (storedTree num) root-use (h .inUse) (rw (h .isRoot) top))
+
+  pub depth-steps : {w : ℕ} → InTree t (first t x) w → Steps (plain t) x (depthUnder t x w) w
+  depth-steps {w} i =
+      let e : depthUnder t x w - depthUnder t x x ≡ depthUnder t x w = omega (arith, root-top) in
+      steps-plain i (rw e at (anc-steps deep (i .inUse) (over i)))
+
+  pub steps-depth-under : {k w : ℕ} → InTree t (first t x) w → Steps (plain t) x k w → k ≡ depthUnder t x w
+  steps-depth-under i s = omega (arith, steps-depth deep (i .inUse) (plain-steps _ refl i s), root-top)
+
+  -- The list is in order
 
   pub moved-get : (w : ℕ) → isOfTree t x w ≡ true → first t w ≡ first t x
   moved-get w e = says-get (says-eqb (first t w) (first t x)) e
 
-  above : (w : ℕ) → w < t .count → isOfTree t x w ≡ true → isOfTree t x (target t x v w) ≡ true → depthUnder t x (target t x v w) < depthUnder t x w
-  above w l e f = elim (ℕ-discrete w x) [
-    | yes z ↦ absurd (h .other (moved-get v (rw (says-true (says-eqb w x) z) at f)))
-    | no n ↦
-        let p : plain t w ≡ treeParent t (first t x) w = plain-tree r small (in-x l (moved-get w e)) in
-        rw (says-false (says-eqb w x) n) (rw p (omega (arith, deep .step w l (some l (moved-get w e) n))))
-  ]
-
-  pub link-ordered : Order t x v (linkOrder t x)
+  pub link-ordered : Order t x (linkOrder t x)
   link-ordered = record {
     inside = λ w i. levels-of (isOfTree t x) (depthUnder t x) (t .count) 0 (t .count) w i .inside;
     moved = λ w i. moved-get w (levels-of (isOfTree t x) (depthUnder t x) (t .count) 0 (t .count) w i .picked);
@@ -75,6 +103,74 @@ module _ {capacity : ℕ} {t : Table} {x v door : ℕ} (r : Rules capacity t) (s
       low = omega arith;
       high = omega (arith, depth-below deep w l);
     };
-    once = levels-once (isOfTree t x) (depthUnder t x) (t .count) 0 (t .count);
-    before = levels-before (isOfTree t x) (depthUnder t x) (t .count) (target t x v) above 0 (t .count);
+    rises = levels-rise (isOfTree t x) (depthUnder t x) (t .count) precede 0 (t .count);
   }
+    where
+      precede : (w y d e : ℕ) → Of (isOfTree t x) (depthUnder t x) (t .count) d 1 w → Of (isOfTree t x) (depthUnder t x) (t .count) e 1 y
+          → (d < e) ⊎ ((d ≡ e) × (w < y)) → Precedes t x w y
+      precede w y d e a b s = record {
+        depth = depthUnder t x w;
+        under = depth-steps (in-x (a .inside) (moved-get w (a .picked)));
+        depthAfter = depthUnder t x y;
+        underAfter = depth-steps (in-x (b .inside) (moved-get y (b .picked)));
+        sooner = elim s [
+          | inl l ↦ inl (omega (arith, a .low, a .high, b .low, b .high))
+          | inr l ↦ inr (omega (arith, a .low, a .high, b .low, b .high, l .0), l .1)
+        ];
+      }
+
+  -- Laws of every such order
+
+  module _ {zs : List ℕ} (o : Order t x zs) where
+    -- what comes before lies no deeper, and is another row
+    precedes-depth : {w y : ℕ} → InTree t (first t x) w → InTree t (first t x) y → Precedes t x w y
+        → (depthUnder t x w < depthUnder t x y) ⊎ ((depthUnder t x w ≡ depthUnder t x y) × (w < y))
+    precedes-depth i j p =
+        let a = steps-depth-under i (p .under) in
+        let b = steps-depth-under j (p .underAfter) in
+        elim (p .sooner) [ inl l ↦ inl (omega arith) | inr l ↦ inr (omega (arith, l .0), l .1) ]
+
+    -- each row once
+    once-from : (ys : List ℕ) → ((w : ℕ) → Member ys w → InTree t (first t x) w) → Rises (Precedes t x) ys → Once ys
+    once-from [] i p = tt
+    once-from (y ∷ ys) i p = (
+      λ m. elim (precedes-depth (i y (inl refl)) (i y (inl refl)) (p .0 y m)) [ inl l ↦ omega arith | inr l ↦ omega (arith, l .1) ],
+      once-from ys (λ w m. i w (inr m)) (p .1),
+    )
+
+    own : (w : ℕ) → Member zs w → InTree t (first t x) w
+    own w m = in-x (o .inside w m) (o .moved w m)
+
+    pub order-once : Once zs
+    order-once = once-from zs own (o .rises)
+
+    -- a target stands in another tree or one step nearer to x
+    nearer : (w : ℕ) → InTree t (first t x) w → InTree t (first t x) (target t x v w) → depthUnder t x (target t x v w) < depthUnder t x w
+    nearer w i j = elim (ℕ-discrete w x) [
+      | yes z ↦ absurd (h .other (first-is num (rw (says-true (says-eqb w x) z) at j)))
+      | no n ↦
+          let s = some (i .inUse) (first-is num i) n in
+          rw (says-false (says-eqb w x) n, plain-tree r small i) (omega (arith, deep .step w (i .inUse) s))
+    ]
+
+    before-from : (ys : List ℕ) → ((w : ℕ) → Member ys w → InTree t (first t x) w) → Rises (Precedes t x) ys → Before (target t x v) ys
+    before-from [] i p = tt
+    before-from (y ∷ ys) i p = (
+      λ m. elim m [
+        | inl e ↦ omega (arith, nearer y (i y (inl refl)) (rw e (i y (inl refl))), ap (depthUnder t x) e)
+        | inr k ↦
+            let j = i (target t x v y) (inr k) in
+            let n = nearer y (i y (inl refl)) j in
+            elim (precedes-depth (i y (inl refl)) j (p .0 (target t x v y) k)) [ inl l ↦ omega arith | inr l ↦ omega (arith, l .0) ]
+      ],
+      before-from ys (λ w m. i w (inr m)) (p .1),
+    )
+
+    -- targets first
+    pub order-before : Before (target t x v) zs
+    order-before = before-from zs own (o .rises)
+
+    -- as many as the tree has rows
+    pub order-length : length zs ≡ treeRows t x
+    order-length = sym (once-count zs (t .count) order-once (o .inside)) ∙ sum-eq (λ w. bit (isIn zs w)) (λ w. bit (isOfTree t x w)) (t .count)
+        (λ w l. ap bit (says-eq (o .moved w) (o .all w l) (says-in zs w) (says-eqb (first t w) (first t x))))

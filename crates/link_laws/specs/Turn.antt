@@ -10,16 +10,7 @@ use Rattle.laws.specs.Test.{pick, says-true, says-false, says-eqb}
 use Rattle.tree_laws.specs.Ancestor.{none, Anc, here, there, Forest}
 use Rattle.tree_laws.specs.AncestorLaws.{cases, no-loop, trans, decAnc, anc-in}
 use Rattle.tree_laws.specs.Reroot.{PlainParent, root, turned, kept, plainParent}
-use Rattle.tree_laws.specs.RerootLaws.{plain-is}
-
-abbrev put : (ℕ → ℕ) → ℕ → ℕ → ℕ → ℕ
-put f x v y = pick (eqb y x) v (f y)
-
-put-here : (f : ℕ → ℕ) (x v y : ℕ) → y ≡ x → put f x v y ≡ v
-put-here f x v y e = rw (says-true (says-eqb y x) e) refl
-
-put-there : (f : ℕ → ℕ) (x v y : ℕ) → y ≢ x → put f x v y ≡ f y
-put-there f x v y n = rw (says-false (says-eqb y x) n) refl
+use Rattle.renumbering.specs.Column.{put, put-same, put-other}
 
 -- from z up, at most fuel rows on: z comes under `under`, the row above z under z, and so on
 abbrev pub turnedUp : (ℕ → ℕ) → ℕ → (ℕ → ℕ) → ℕ → ℕ → ℕ → ℕ
@@ -29,20 +20,20 @@ turnedUp up (suc f) col z under = pick (eqb (up z) none) (put col z under) (turn
 module _ {up rank : ℕ → ℕ} {n : ℕ} (t : Forest up rank n) where
   -- rows off the line keep what they hold
   pub turned-off : (f : ℕ) (col : ℕ → ℕ) (z under w : ℕ) → z < n → rank z ≤ f → (Anc up w z → ⊥) → turnedUp up f col z under w ≡ col w
-  turned-off zero col z under w l h d = put-there col z under w (λ e. d (rw e here))
+  turned-off zero col z under w l h d = put-other col z under w (λ e. d (rw e here))
   turned-off (suc f) col z under w l h d = elim (ℕ-discrete (up z) none) [
-    | yes e ↦ rw (says-true (says-eqb (up z) none) e) (put-there col z under w (λ e. d (rw e here)))
+    | yes e ↦ rw (says-true (says-eqb (up z) none) e) (put-other col z under w (λ e. d (rw e here)))
     | no g ↦ rw (says-false (says-eqb (up z) none) g)
-        (turned-off f (put col z under) (up z) z w (t .inside z l g) (omega (arith, t .falls z l g)) (λ p. d (there g p)) ∙ put-there col z under w (λ e. d (rw e here)))
+        (turned-off f (put col z under) (up z) z w (t .inside z l g) (omega (arith, t .falls z l g)) (λ p. d (there g p)) ∙ put-other col z under w (λ e. d (rw e here)))
   ]
 
   -- the row where it starts
   pub turned-here : (f : ℕ) (col : ℕ → ℕ) (z under : ℕ) → z < n → rank z ≤ f → turnedUp up f col z under z ≡ under
-  turned-here zero col z under l h = put-here col z under z refl
+  turned-here zero col z under l h = put-same col z under
   turned-here (suc f) col z under l h = elim (ℕ-discrete (up z) none) [
-    | yes e ↦ rw (says-true (says-eqb (up z) none) e) (put-here col z under z refl)
+    | yes e ↦ rw (says-true (says-eqb (up z) none) e) (put-same col z under)
     | no g ↦ rw (says-false (says-eqb (up z) none) g)
-        (turned-off f (put col z under) (up z) z z (t .inside z l g) (omega (arith, t .falls z l g)) (no-loop t z l g) ∙ put-here col z under z refl)
+        (turned-off f (put col z under) (up z) z z (t .inside z l g) (omega (arith, t .falls z l g)) (no-loop t z l g) ∙ put-same col z under)
   ]
 
   -- a row of the line above it comes under the next one below

@@ -1,0 +1,78 @@
+-- The refusals of a link in their order: each where those before it do not hold.
+use mathlib.Core.Path.{_≡_, refl}
+use mathlib.Core.Bool.{true, false}
+use mathlib.Core.Logic.{_≢_}
+use Prim.Native.Nat.{ℕ, _≤_, _<_}
+use borrow.Author.Tests.{eq-eqb, ne-eqb, lt-ltb, le-ltb}
+use Rattle.tree_laws.specs.Ancestor.{none}
+use Rattle.rows.specs.declared.capacity.Fit.the-variants.{Capacity, Misfit as NoFit}
+use Rattle.rows.specs.declared.refusal.Refusal.the-variants.{UnknownNode, Misfit, Corrupt, BadLabel, NotRoot, SameTree}
+use Rattle.rows.specs.declared.state.State.{State}
+use Rattle.rows.specs.Row.{Parts}
+use Rattle.rows.specs.Capacity.{capacityOf}
+use Rattle.rows.specs.State.{isStanding}
+use Rattle.rows.specs.Table.{tableOf}
+use Rattle.rows.specs.Tree.{treeAt, rootAt}
+use Rattle.inspect_laws.specs.Inspects.{inspects}
+use Rattle.growth.specs.Plan.{isLabel}
+use Rattle.link.specs.declared.check.Checked.the-variants.{Serve, Refuse}
+use Rattle.link.specs.Link.{linkWithin, linkChecked}
+
+module _ (p : Parts) (scratch : ℕ) (s : State) (x v door : ℕ) where
+  pub check-misfit : NoFit ≡ capacityOf p → Refuse Misfit ≡ linkChecked p scratch s x v door
+  unfolding linkChecked
+  check-misfit e = rw (← e)
+
+  module _ (c : ℕ) (fit : Capacity c ≡ capacityOf p) where
+    pub check-scratch : scratch ≢ c → Refuse Misfit ≡ linkChecked p scratch s x v door
+    unfolding linkChecked linkWithin
+    check-scratch z = rw (← fit, ne-eqb scratch c z)
+
+    module _ (a : scratch ≡ c) where
+      pub check-x : s .count ≤ x → Refuse UnknownNode ≡ linkChecked p scratch s x v door
+      unfolding linkChecked linkWithin
+      check-x z = rw (← fit, eq-eqb scratch c a, le-ltb x (s .count) z)
+
+      module _ (b : x < s .count) where
+        pub check-v : s .count ≤ v → Refuse UnknownNode ≡ linkChecked p scratch s x v door
+        unfolding linkChecked linkWithin
+        check-v z = rw (← fit, eq-eqb scratch c a, lt-ltb x (s .count) b, le-ltb v (s .count) z)
+
+        module _ (d : v < s .count) where
+          pub check-label : isLabel door ≡ false → Refuse BadLabel ≡ linkChecked p scratch s x v door
+          unfolding linkChecked linkWithin
+          check-label z = rw (← fit, eq-eqb scratch c a, lt-ltb x (s .count) b, lt-ltb v (s .count) d, z)
+
+          module _ (e : isLabel door ≡ true) where
+            pub check-count : isStanding c s ≡ false → Refuse Corrupt ≡ linkChecked p scratch s x v door
+            unfolding linkChecked linkWithin
+            check-count z = rw (← fit, eq-eqb scratch c a, lt-ltb x (s .count) b, lt-ltb v (s .count) d, e, z)
+
+            module _ (g : isStanding c s ≡ true) where
+              pub check-lost : rootAt (p .fields) (p .ancestors) (s .count) x ≡ none → Refuse Corrupt ≡ linkChecked p scratch s x v door
+              unfolding linkChecked linkWithin
+              check-lost z = rw (← fit, eq-eqb scratch c a, lt-ltb x (s .count) b, lt-ltb v (s .count) d, e, g, eq-eqb (rootAt (p .fields) (p .ancestors) (s .count) x) none z)
+
+              module _ (h : rootAt (p .fields) (p .ancestors) (s .count) x ≢ none) where
+                pub check-not-root : rootAt (p .fields) (p .ancestors) (s .count) x ≢ x → Refuse NotRoot ≡ linkChecked p scratch s x v door
+                unfolding linkChecked linkWithin
+                check-not-root z = rw (← fit, eq-eqb scratch c a, lt-ltb x (s .count) b, lt-ltb v (s .count) d, e, g, ne-eqb (rootAt (p .fields) (p .ancestors) (s .count) x) none h, ne-eqb (rootAt (p .fields) (p .ancestors) (s .count) x) x z)
+
+                module _ (i : rootAt (p .fields) (p .ancestors) (s .count) x ≡ x) where
+                  pub check-other-lost : treeAt (p .ancestors) (s .count) v ≡ none → Refuse Corrupt ≡ linkChecked p scratch s x v door
+                  unfolding linkChecked linkWithin
+                  check-other-lost z = rw (← fit, eq-eqb scratch c a, lt-ltb x (s .count) b, lt-ltb v (s .count) d, e, g, ne-eqb (rootAt (p .fields) (p .ancestors) (s .count) x) none h, eq-eqb (rootAt (p .fields) (p .ancestors) (s .count) x) x i, eq-eqb (treeAt (p .ancestors) (s .count) v) none z)
+
+                  module _ (j : treeAt (p .ancestors) (s .count) v ≢ none) where
+                    pub check-same : treeAt (p .ancestors) (s .count) v ≡ treeAt (p .ancestors) (s .count) x → Refuse SameTree ≡ linkChecked p scratch s x v door
+                    unfolding linkChecked linkWithin
+                    check-same z = rw (← fit, eq-eqb scratch c a, lt-ltb x (s .count) b, lt-ltb v (s .count) d, e, g, ne-eqb (rootAt (p .fields) (p .ancestors) (s .count) x) none h, eq-eqb (rootAt (p .fields) (p .ancestors) (s .count) x) x i, ne-eqb (treeAt (p .ancestors) (s .count) v) none j, eq-eqb (treeAt (p .ancestors) (s .count) v) (treeAt (p .ancestors) (s .count) x) z)
+
+                    module _ (k : treeAt (p .ancestors) (s .count) v ≢ treeAt (p .ancestors) (s .count) x) where
+                      pub check-inspect : inspects c (tableOf p (s .count)) ≡ false → Refuse Corrupt ≡ linkChecked p scratch s x v door
+                      unfolding linkChecked linkWithin
+                      check-inspect z = rw (← fit, eq-eqb scratch c a, lt-ltb x (s .count) b, lt-ltb v (s .count) d, e, g, ne-eqb (rootAt (p .fields) (p .ancestors) (s .count) x) none h, eq-eqb (rootAt (p .fields) (p .ancestors) (s .count) x) x i, ne-eqb (treeAt (p .ancestors) (s .count) v) none j, ne-eqb (treeAt (p .ancestors) (s .count) v) (treeAt (p .ancestors) (s .count) x) k, z)
+
+                      pub check-serve : inspects c (tableOf p (s .count)) ≡ true → Serve (treeAt (p .ancestors) (s .count) x) ≡ linkChecked p scratch s x v door
+                      unfolding linkChecked linkWithin
+                      check-serve z = rw (← fit, eq-eqb scratch c a, lt-ltb x (s .count) b, lt-ltb v (s .count) d, e, g, ne-eqb (rootAt (p .fields) (p .ancestors) (s .count) x) none h, eq-eqb (rootAt (p .fields) (p .ancestors) (s .count) x) x i, ne-eqb (treeAt (p .ancestors) (s .count) v) none j, ne-eqb (treeAt (p .ancestors) (s .count) v) (treeAt (p .ancestors) (s .count) x) k, z)

@@ -1,0 +1,84 @@
+-- A link (02, "Coupled rooms"): the outcome and all parts afterwards, on every table. The refusals in their order: 3, 1, 5, 4 (count), 4 (the tree of x), 10,
+-- 4 (the tree of v), 11, 4 (inspection).
+use mathlib.Core.Path.{_≡_}
+use mathlib.Core.Bool.{Bool, not}
+use mathlib.Core.List.{List}
+use Prim.Native.Nat.{ℕ, _*_}
+use lib.Dec.{eqb, ltb}
+use lib.ListN.{length}
+use Rattle.laws.specs.Test.{pick}
+use Rattle.tree_laws.specs.Ancestor.{none}
+use Rattle.rows.specs.declared.refusal.Refusal.{Refusal}
+use Rattle.rows.specs.declared.refusal.Refusal.the-variants.{UnknownNode, Misfit, Corrupt, BadLabel, NotRoot, SameTree}
+use Rattle.rows.specs.declared.state.State.{State}
+use Rattle.rows.specs.Row.{Parts, levelAt}
+use Rattle.rows.specs.Capacity.{capacityOf}
+use Rattle.rows.specs.State.{isStanding}
+use Rattle.rows.specs.Table.{tableOf}
+use Rattle.rows.specs.Tree.{treeAt, rootAt}
+use Rattle.inspect_laws.specs.Inspects.{inspects}
+use Rattle.growth.specs.Fitting.{onFit}
+use Rattle.growth.specs.Plan.{isLabel}
+use Rattle.growth.specs.Store.{Stored}
+use Rattle.link.specs.declared.Linked.{Linked}
+use Rattle.link.specs.declared.Linked.the-variants.{Under, Refused}
+use Rattle.link.specs.declared.check.Checked.{Checked}
+use Rattle.link.specs.declared.check.Checked.the-variants.{Serve, Refuse}
+use Rattle.link.specs.Sort.{Sorted, cellAt, sortedRows}
+use Rattle.link.specs.Detach.{detached}
+use Rattle.link.specs.Walk.{walking, joining, joinWalk}
+
+-- what a link answers, and the parts afterwards
+pub record Outcome : Type 0 where
+  pub linked : Linked
+  pub parts : Parts
+
+abbrev pub outcome : Parts → Linked → Outcome
+outcome p r = record { linked = r; parts = p }
+
+-- refused unless a test holds
+abbrev pub provided : Bool → Refusal → Checked → Checked
+provided b r k = pick b k (Refuse r)
+
+-- in parts that fit the capacity c; `door` is the label that the linked root takes
+unfoldable pub linkWithin : Parts → ℕ → ℕ → State → ℕ → ℕ → ℕ → Checked
+linkWithin p c scratch s x v door =
+    provided (eqb scratch c) Misfit
+    (provided (ltb x (s .count)) UnknownNode
+    (provided (ltb v (s .count)) UnknownNode
+    (provided (isLabel door) BadLabel
+    (provided (isStanding c s) Corrupt
+    (provided (not (eqb (rootAt (p .fields) (p .ancestors) (s .count) x) none)) Corrupt
+    (provided (eqb (rootAt (p .fields) (p .ancestors) (s .count) x) x) NotRoot
+    (provided (not (eqb (treeAt (p .ancestors) (s .count) v) none)) Corrupt
+    (provided (not (eqb (treeAt (p .ancestors) (s .count) v) (treeAt (p .ancestors) (s .count) x))) SameTree
+    (provided (inspects c (tableOf p (s .count))) Corrupt
+    (Serve (treeAt (p .ancestors) (s .count) x)))))))))))
+
+-- with a scratch of this length
+unfoldable pub linkChecked : Parts → ℕ → State → ℕ → ℕ → ℕ → Checked
+linkChecked p scratch s x v door = onFit (capacityOf p) (λ c. linkWithin p c scratch s x v door) (Refuse Misfit)
+
+-- the rows of the tree sorted, detached, and joined in their order; two turns for each row in use are enough
+unfoldable pub joinedTree : Parts → ℕ → ℕ → ℕ → ℕ → ℕ → ℕ → Stored
+joinedTree p c n tree x v door =
+    let s : Sorted = sortedRows c (p .levels) (p .ancestors) n tree (levelAt (p .levels) x) in
+    joinWalk (2 * n) (cellAt (s .heads)) (cellAt (s .links)) n x door (walking (detached p n tree x v) (joining (cellAt (s .heads) 0) 0 0))
+
+unfoldable pub servedBy : Stored → Outcome
+servedBy o = outcome (o .parts) (Under (record { rows = o .given }))
+
+-- by what was decided: a refusal changes nothing
+unfoldable pub linkedBy : Parts → ℕ → ℕ → ℕ → ℕ → ℕ → Checked → Outcome
+linkedBy p c n x v door (Serve tree) = servedBy (joinedTree p c n tree x v door)
+linkedBy p c n x v door (Refuse r) = outcome p (Refused r)
+
+-- the tree of x under v by a door; of the scratch only its length counts
+unfoldable pub linkBy : Parts → ℕ → State → ℕ → ℕ → ℕ → Outcome
+linkBy p scratch s x v door = linkedBy p scratch (s .count) x v door (linkChecked p scratch s x v door)
+
+-- what a call of the code leaves: the outcome, and the scratch, which a refusal leaves as it was
+pub record LinkCall (p p′ : Parts) (scratch scratch′ : List ℕ) (s : State) (x v door : ℕ) (r : Linked) : Type 0 where
+  pub outcome : outcome p′ r ≡ linkBy p (length scratch) s x v door
+  pub long : length scratch′ ≡ length scratch
+  pub unchanged : (why : Refusal) → r ≡ Refused why → scratch′ ≡ scratch

@@ -1,0 +1,74 @@
+// What a link decides before its first store: its refusals in their order.
+use growth::plan_leaf::is_label;
+use inspect::is_ours;
+use rows::capacity::Fit;
+use rows::capacity::capacity;
+use rows::layout::NONE;
+use rows::refusal::Refusal;
+use rows::state::State;
+use rows::state::is_standing;
+use rows::tree::root_of;
+use rows::tree::tree_of;
+ghost use mathlib.Core.Path.{_≡_};
+ghost use lib.ListN.{length};
+ghost use Rattle.rows.specs.Row.{partsOf};
+ghost use Rattle.link.specs.Link.{linkChecked};
+
+// A link that is served, with the first row of the tree of x; or why it is refused.
+pub enum Checked {
+    Serve(u16),
+    Refuse(Refusal),
+}
+
+// The tree of x under v by the label `door`. Inspection runs on memory of our own: a refusal leaves the scratch as it was.
+pub fn check_link(
+    fields: &[u16],
+    numbers: &[u64],
+    levels: &[i32],
+    ancestors: &[u16],
+    scratch: &[u16],
+    state: State,
+    x: u16,
+    v: u16,
+    door: u16,
+) -> Checked
+    ensures { λ r. ⌜ r ≡ linkChecked (partsOf (now (fields .entry)) (now (numbers .entry)) (now (levels .entry)) (now (ancestors .entry))) (length (now (scratch .entry))) state x v door ⌝ }
+{
+    let Fit::Capacity(cap) = capacity(fields, numbers, levels, ancestors) else {
+        return Checked::Refuse(Refusal::Misfit);
+    };
+    if scratch.len() != cap {
+        return Checked::Refuse(Refusal::Misfit);
+    }
+    if state.count <= x {
+        return Checked::Refuse(Refusal::UnknownNode);
+    }
+    if state.count <= v {
+        return Checked::Refuse(Refusal::UnknownNode);
+    }
+    if !is_label(door) {
+        return Checked::Refuse(Refusal::BadLabel);
+    }
+    if !is_standing(cap, state) {
+        return Checked::Refuse(Refusal::Corrupt);
+    }
+    let tree = tree_of(ancestors, state.count, x);
+    let root = root_of(fields, state.count, tree);
+    if root == NONE {
+        return Checked::Refuse(Refusal::Corrupt);
+    }
+    if root != x {
+        return Checked::Refuse(Refusal::NotRoot);
+    }
+    let other = tree_of(ancestors, state.count, v);
+    if other == NONE {
+        return Checked::Refuse(Refusal::Corrupt);
+    }
+    if other == tree {
+        return Checked::Refuse(Refusal::SameTree);
+    }
+    if !is_ours(fields, numbers, levels, ancestors, cap, state) {
+        return Checked::Refuse(Refusal::Corrupt);
+    }
+    Checked::Serve(tree)
+}

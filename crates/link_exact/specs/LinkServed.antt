@@ -1,0 +1,230 @@
+-- A link is exact: on a table that passes inspection it is served where x is a root and v stands in another tree, and then it is the link that 02 asks for;
+-- every other call is refused for its reason and leaves the parts as they were. 4 is given exactly where inspection says no.
+use mathlib.Core.Path.{_≡_, refl, ap, sym, _∙_}
+use mathlib.Core.Bool.{Bool, true, false, not}
+use mathlib.Core.Logic.{_≢_}
+use Prim.Native.Nat.{ℕ, _+_, _*_, _≤_, _<_}
+use native.Mathlib.Decide.{decLt}
+use native.Mathlib.Omega.{arith}
+use borrow.Author.Tests.{eq-eqb, ne-eqb, le-leb}
+use lib.Dec.{eqb, ltb}
+use Rattle.laws.specs.Test.{pick, Says, holds, fails, says-true, says-ltb, says-get}
+use Rattle.tree_laws.specs.Ancestor.{none}
+use Rattle.rows.specs.declared.refusal.Refusal.{Refusal}
+use Rattle.rows.specs.declared.refusal.Refusal.the-variants.{UnknownNode, Misfit, Corrupt, BadLabel, NotRoot, SameTree}
+use Rattle.rows.specs.declared.state.State.{State}
+use Rattle.rows.specs.Capacity.{Fits, capacityOf}
+use Rattle.rows.specs.CapacityLaws.{fits-told}
+use Rattle.rows.specs.PlainTree.{first, root}
+use Rattle.rows.specs.Row.{Parts}
+use Rattle.rows.specs.Rules.{Rules, numbered}
+use Rattle.rows.specs.State.{isStanding}
+use Rattle.rows.specs.StateLaws.{says-standing}
+use Rattle.rows.specs.Table.{Table, tableOf}
+use Rattle.rows.specs.Tree.{treeAt, rootAt}
+use Rattle.numbering.specs.Numbered.{in-tree, first-in}
+use Rattle.numbering.specs.Lines.{root-in}
+use Rattle.numbering.specs.TreeTests.{tree-is, root-is, same-tree, tree-same}
+use Rattle.inspect_laws.specs.Exact.{inspect-exact}
+use Rattle.inspect_laws.specs.Inspects.{inspects}
+use Rattle.growth_laws.specs.Lag.{lag, worth, perJoin}
+use Rattle.growth.specs.Plan.{isLabel}
+use Rattle.link_laws.specs.Link.{Linkable, Linked, PlainLink}
+use Rattle.link_laws.specs.LinkLaws.{link-keeps-rules, link-plain, link-pays}
+use Rattle.link_laws.specs.Order.{treeRows}
+use Rattle.link.specs.declared.Linked.{Linked as Answer}
+use Rattle.link.specs.declared.Linked.the-variants.{Under, Refused}
+use Rattle.link.specs.declared.check.Checked.{Checked}
+use Rattle.link.specs.declared.check.Checked.the-variants.{Serve, Refuse}
+use Rattle.link.specs.CheckLaws.{check-scratch, check-x, check-v, check-label, check-not-root, check-same, check-inspect, check-serve}
+use Rattle.link.specs.Link.{Outcome, outcome, provided, linkWithin, linkChecked, joinedTree, servedBy, linkedBy, linkBy}
+use Rattle.link_exact.specs.TreeJoined.{after, renumbered, tree-linked, tree-fits, tree-joined}
+
+-- a link that was served, told by its outcome
+pub record LinkedExactly (c : ℕ) (p : Parts) (s : State) (x v door : ℕ) (o : Outcome) : Type 0 where
+  pub rows : ℕ
+  pub answered : o .linked ≡ Under (record { rows = rows })
+  pub fits : Fits c (o .parts)
+  pub linked : Linked (tableOf p (s .count)) (tableOf (o .parts) (s .count)) x v door rows
+  pub rules : Rules c (tableOf (o .parts) (s .count))
+  pub plain : PlainLink (tableOf p (s .count)) (tableOf (o .parts) (s .count)) x v door
+  pub pays : worth * lag (tableOf (o .parts) (s .count)) + rows ≤ worth * lag (tableOf p (s .count)) + perJoin * treeRows (tableOf p (s .count)) x
+
+-- by what was decided
+by-refusal : (p : Parts) (scratch : ℕ) (s : State) (x v door : ℕ) {why : Refusal} → Refuse why ≡ linkChecked p scratch s x v door
+    → linkBy p scratch s x v door ≡ outcome p (Refused why)
+unfolding linkBy linkedBy
+by-refusal p scratch s x v door e = rw (← e) refl
+
+by-serving : (p : Parts) (scratch : ℕ) (s : State) (x v door : ℕ) {tree : ℕ} → Serve tree ≡ linkChecked p scratch s x v door
+    → linkBy p scratch s x v door ≡ servedBy (joinedTree p scratch (s .count) tree x v door)
+unfolding linkBy linkedBy
+by-serving p scratch s x v door e = rw (← e) refl
+
+-- Refusals on any table
+
+module _ {c : ℕ} (p : Parts) (scratch : ℕ) (s : State) (x v door : ℕ) (fit : Fits c p) where
+  pub link-misfit : scratch ≢ c → linkBy p scratch s x v door ≡ outcome p (Refused Misfit)
+  link-misfit d = by-refusal p scratch s x v door (check-scratch p scratch s x v door c (sym (fits-told fit)) d)
+
+  module _ (same : scratch ≡ c) where
+    pub link-unknown-x : s .count ≤ x → linkBy p scratch s x v door ≡ outcome p (Refused UnknownNode)
+    link-unknown-x l = by-refusal p scratch s x v door (check-x p scratch s x v door c (sym (fits-told fit)) same l)
+
+    pub link-unknown-v : s .count ≤ v → linkBy p scratch s x v door ≡ outcome p (Refused UnknownNode)
+    link-unknown-v l = elim (decLt x (s .count)) [
+      | yes k ↦ by-refusal p scratch s x v door (check-v p scratch s x v door c (sym (fits-told fit)) same k l)
+      | no d ↦ link-unknown-x (omega arith)
+    ]
+
+    module _ (inX : x < s .count) (inV : v < s .count) where
+      pub link-label : isLabel door ≡ false → linkBy p scratch s x v door ≡ outcome p (Refused BadLabel)
+      link-label e = by-refusal p scratch s x v door (check-label p scratch s x v door c (sym (fits-told fit)) same inX inV e)
+
+      -- what 3, 1, 5, 10 and 11 let through is refused where inspection says no
+      pub link-corrupt : isLabel door ≡ true → s .count ≤ c → rootAt (p .fields) (p .ancestors) (s .count) x ≡ x
+          → treeAt (p .ancestors) (s .count) v ≢ none → treeAt (p .ancestors) (s .count) v ≢ treeAt (p .ancestors) (s .count) x
+          → inspects c (tableOf p (s .count)) ≡ false → linkBy p scratch s x v door ≡ outcome p (Refused Corrupt)
+      link-corrupt e l i j k z = by-refusal p scratch s x v door (check-inspect p scratch s x v door c (sym (fits-told fit)) same inX inV e
+          (says-true (says-standing c s) l) (λ y. omega (arith, fit .most, sym i ∙ y)) i j k z)
+
+-- On a table that passes inspection
+
+module _ {c : ℕ} (p : Parts) (s : State) (fit : Fits c p) (r : Rules c (tableOf p (s .count))) where
+  standing : isStanding c s ≡ true
+  standing = says-true (says-standing c s) (r .one .count)
+
+  root-read : {x : ℕ} → x < s .count → rootAt (p .fields) (p .ancestors) (s .count) x ≡ root (tableOf p (s .count)) x
+  root-read {x} l = root-is p (s .count) r (fit .most) x l
+
+  root-some : {x : ℕ} → x < s .count → rootAt (p .fields) (p .ancestors) (s .count) x ≢ none
+  root-some {x} l e = omega (arith, sym (root-read l) ∙ e, root-in r (fit .most) (in-tree (numbered r (fit .most)) x l) .inUse, r .one .count, fit .most)
+
+  tree-some : {v : ℕ} → v < s .count → treeAt (p .ancestors) (s .count) v ≢ none
+  tree-some {v} l e =
+      let i = in-tree (numbered r (fit .most)) v l in
+      omega (arith, sym (tree-is p (s .count) r (fit .most) i) ∙ e, first-in (numbered r (fit .most)) i, r .one .count, fit .most)
+
+module _ {c : ℕ} (p : Parts) (scratch : ℕ) (s : State) (x v door : ℕ) (fit : Fits c p) (r : Rules c (tableOf p (s .count))) (same : scratch ≡ c) where
+  abbrev t : Table
+  t = tableOf p (s .count)
+
+  module _ (inX : x < s .count) (inV : v < s .count) (label : isLabel door ≡ true) where
+    pub link-not-root : root t x ≢ x → linkBy p scratch s x v door ≡ outcome p (Refused NotRoot)
+    link-not-root d = by-refusal p scratch s x v door (check-not-root p scratch s x v door c (sym (fits-told fit)) same inX inV label (standing p s fit r) (root-some p s fit r inX)
+        (λ e. d (sym (root-read p s fit r inX) ∙ e)))
+
+    pub link-same-tree : root t x ≡ x → first t v ≡ first t x → linkBy p scratch s x v door ≡ outcome p (Refused SameTree)
+    link-same-tree e i = by-refusal p scratch s x v door (check-same p scratch s x v door c (sym (fits-told fit)) same inX inV label (standing p s fit r) (root-some p s fit r inX)
+        (root-read p s fit r inX ∙ e) (tree-some p s fit r inV) (tree-same p (s .count) r (fit .most) v x inV inX i))
+
+  module _ (h : Linkable t x v door) where
+    label-is : isLabel door ≡ true
+    label-is = rw (le-leb 1 door (h .least)) (le-leb door _ (h .most))
+
+    checked : Serve (first t x) ≡ linkChecked p scratch s x v door
+    checked =
+        let k = check-serve p scratch s x v door c (sym (fits-told fit)) same (h .inUse) (h .over) label-is (standing p s fit r) (root-some p s fit r (h .inUse)) (root-read p s fit r (h .inUse) ∙ h .isRoot)
+        (tree-some p s fit r (h .over)) (λ e. h .other (same-tree p (s .count) r (fit .most) v x (h .over) (h .inUse) e))
+        (says-true (inspect-exact c t (fit .most)) r) in
+        ap Serve (sym (tree-is p (s .count) r (fit .most) (in-tree (numbered r (fit .most)) x (h .inUse)))) ∙ k
+
+    abbrev d : Parts
+    d = after r fit h
+
+    served : linkBy p scratch s x v door ≡ outcome d (Under (record { rows = renumbered r fit h }))
+    unfolding servedBy
+    served = by-serving p scratch s x v door checked ∙ rw (same, tree-joined r fit h) refl
+
+    pub link-served : LinkedExactly c p s x v door (linkBy p scratch s x v door)
+    link-served = rw served record {
+      rows = renumbered r fit h;
+      answered = refl;
+      fits = tree-fits r fit h;
+      linked = tree-linked r fit h;
+      rules = link-keeps-rules r (fit .most) (tree-linked r fit h);
+      plain = link-plain r (fit .most) (tree-linked r fit h);
+      pays = link-pays r (fit .most) (tree-linked r fit h);
+    }
+
+-- 4 exactly where inspection says no
+
+-- a call that 3, 1, 5, 10 and 11 let through
+pub record LetThrough (o : Outcome) : Type 0 where
+  pub fits : o .linked ≢ Refused Misfit
+  pub known : o .linked ≢ Refused UnknownNode
+  pub labelled : o .linked ≢ Refused BadLabel
+  pub isRoot : o .linked ≢ Refused NotRoot
+  pub otherTree : o .linked ≢ Refused SameTree
+
+-- the answers of one decision
+ladder : Bool → Bool → Bool → Bool → Bool → Bool → Bool → Bool → Bool → Bool → Checked → Checked
+ladder a b d e g h i j k l o =
+    provided a Misfit (provided b UnknownNode (provided d UnknownNode (provided e BadLabel (provided g Corrupt (provided h Corrupt (provided i NotRoot
+    (provided j Corrupt (provided k SameTree (provided l Corrupt o)))))))))
+
+module _ (p : Parts) (scratch n x v door : ℕ) where
+  told : Checked → Outcome
+  told o = linkedBy p scratch n x v door o
+
+  -- inspection says no: 4 is all that is left
+  no-four : (a b d e g h i j k : Bool) (o : Checked) → LetThrough (told (ladder a b d e g h i j k false o)) → told (ladder a b d e g h i j k false o) .linked ≡ Refused Corrupt
+  unfolding ladder told linkedBy
+  no-four false b d e g h i j k o q = absurd (q .fits refl)
+  no-four true false d e g h i j k o q = absurd (q .known refl)
+  no-four true true false e g h i j k o q = absurd (q .known refl)
+  no-four true true true false g h i j k o q = absurd (q .labelled refl)
+  no-four true true true true false h i j k o q = refl
+  no-four true true true true true false i j k o q = refl
+  no-four true true true true true true false j k o q = absurd (q .isRoot refl)
+  no-four true true true true true true true false k o q = refl
+  no-four true true true true true true true true false o q = absurd (q .otherTree refl)
+  no-four true true true true true true true true true o q = refl
+
+  -- inspection says yes: 4 is never given
+  yes-none : (a b d e h i j k : Bool) (tree : ℕ) → (b ≡ true → h ≡ true) → (d ≡ true → j ≡ true)
+      → told (ladder a b d e true h i j k true (Serve tree)) .linked ≡ Refused Corrupt → ⊥
+  unfolding ladder told linkedBy servedBy
+  yes-none false b d e h i j k tree y z q = let o : _≡_ {A = ℕ} 0 1 = cc in omega arith
+  yes-none true false d e h i j k tree y z q = let o : _≡_ {A = ℕ} 0 1 = cc in omega arith
+  yes-none true true false e h i j k tree y z q = let o : _≡_ {A = ℕ} 0 1 = cc in omega arith
+  yes-none true true true false h i j k tree y z q = let o : _≡_ {A = ℕ} 0 1 = cc in omega arith
+  yes-none true true true true false i j k tree y z q = let o : _≡_ {A = ℕ} 0 1 = cc (y refl) in omega arith
+  yes-none true true true true true false j k tree y z q = let o : _≡_ {A = ℕ} 0 1 = cc in omega arith
+  yes-none true true true true true true false k tree y z q = let o : _≡_ {A = ℕ} 0 1 = cc (z refl) in omega arith
+  yes-none true true true true true true true false tree y z q = let o : _≡_ {A = ℕ} 0 1 = cc in omega arith
+  yes-none true true true true true true true true tree y z q = let o : _≡_ {A = ℕ} 0 1 = cc in omega arith
+
+module _ {c : ℕ} (p : Parts) (scratch : ℕ) (s : State) (x v door : ℕ) (fit : Fits c p) where
+  -- the decisions of a call, with this answer of inspection
+  abbrev decided : Bool → Checked
+  decided l = ladder (eqb scratch c) (ltb x (s .count)) (ltb v (s .count)) (isLabel door) (isStanding c s)
+      (not (eqb (rootAt (p .fields) (p .ancestors) (s .count) x) none)) (eqb (rootAt (p .fields) (p .ancestors) (s .count) x) x)
+      (not (eqb (treeAt (p .ancestors) (s .count) v) none)) (not (eqb (treeAt (p .ancestors) (s .count) v) (treeAt (p .ancestors) (s .count) x))) l
+      (Serve (treeAt (p .ancestors) (s .count) x))
+
+  link-told : {l : Bool} → inspects c (tableOf p (s .count)) ≡ l → linkBy p scratch s x v door ≡ told p scratch (s .count) x v door (decided l)
+  unfolding linkBy linkChecked linkWithin ladder told
+  link-told e = rw (fits-told fit, e) refl
+
+  -- 4 is given only where inspection says no
+  pub link-four-only : linkBy p scratch s x v door .linked ≡ Refused Corrupt → inspects c (tableOf p (s .count)) ≡ false
+  link-four-only q = go (inspects c (tableOf p (s .count))) refl
+    where
+      go : (l : Bool) → inspects c (tableOf p (s .count)) ≡ l → l ≡ false
+      go false e = refl
+      go true e =
+          let r : Rules c (tableOf p (s .count)) = says-get (inspect-exact c (tableOf p (s .count)) (fit .most)) e in
+          let k = ap (λ (o : Outcome). o .linked) (sym (link-told e)) ∙ q in
+          absurd (yes-none p scratch (s .count) x v door (eqb scratch c) (ltb x (s .count)) (ltb v (s .count)) (isLabel door) _ _ _ _ _
+          (λ i. ap not (ne-eqb _ none (root-some p s fit r (says-get (says-ltb x (s .count)) i))))
+          (λ i. ap not (ne-eqb _ none (tree-some p s fit r (says-get (says-ltb v (s .count)) i))))
+          (rw (standing p s fit r) at k))
+
+  -- and of what 3, 1, 5, 10 and 11 let through, exactly there
+  pub link-four : LetThrough (linkBy p scratch s x v door) → Says (linkBy p scratch s x v door .linked ≡ Refused Corrupt) (not (inspects c (tableOf p (s .count))))
+  link-four q = go (inspects c (tableOf p (s .count))) refl
+    where
+      go : (l : Bool) → inspects c (tableOf p (s .count)) ≡ l → Says (linkBy p scratch s x v door .linked ≡ Refused Corrupt) (not l)
+      go true e = fails (λ k. let z : _≡_ {A = ℕ} 0 1 = cc (link-four-only k) in omega arith)
+      go false e = holds (ap (λ (o : Outcome). o .linked) (link-told e) ∙ no-four p scratch (s .count) x v door _ _ _ _ _ _ _ _ _ _ (rw (link-told e) at q))
