@@ -58,6 +58,13 @@ uint16_t nca_table_add_root(uint16_t *fields, size_t fields_len, uint64_t *numbe
                             uint16_t count, uint16_t x,
                             uint16_t *out, size_t out_len);
 
+/* The whole tree of root x under v, a node of another tree; x takes the label. out (1): rows renumbered. */
+uint16_t nca_table_link(uint16_t *fields, size_t fields_len, uint64_t *numbers, size_t numbers_len,
+                        int32_t *levels, size_t levels_len, uint16_t *ancestors, size_t ancestors_len,
+                        uint16_t *scratch, size_t scratch_len,
+                        uint16_t count, uint16_t x, uint16_t v, uint16_t label,
+                        uint32_t *out, size_t out_len);
+
 /* out (6): the nearest common ancestor of x and y, nodes of one tree, the branches towards x and y, the distances of x and y from it, its label. */
 uint16_t nca_table_query(const uint16_t *fields, size_t fields_len, const uint64_t *numbers, size_t numbers_len,
                          const int32_t *levels, size_t levels_len, const uint16_t *ancestors, size_t ancestors_len,

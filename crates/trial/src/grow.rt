@@ -1,6 +1,8 @@
-// Growth of the engine's table and of the plain list side by side, with an inspection after each.
+// Growth of the engine's table and of the plain list side by side, and links, with an inspection after each.
+use crate::random::below;
 use crate::random::next;
 use crate::shape::Kind;
+use crate::shape::is_link;
 use crate::shape::kind_of;
 use crate::shape::label;
 use crate::shape::named;
@@ -10,10 +12,13 @@ use crate::tally::noted;
 use crate::tree::Tree;
 use crate::tree::full_refusal;
 use crate::tree::leaf_refusal;
+use crate::tree::link_refusal;
+use crate::tree::members_in;
 use crate::tree::over_refusal;
 use crate::tree::root_in;
 use crate::tree::with_first;
 use crate::tree::with_leaf;
+use crate::tree::with_link;
 use crate::tree::with_over;
 use crate::tree::with_root;
 use growth::Grown;
@@ -24,6 +29,8 @@ use growth::add_root;
 use growth::add_root_over;
 use inspect::Inspected;
 use inspect::inspect;
+use link::Linked;
+use link::link;
 use rows::refusal::number_of;
 use rows::state::State;
 
@@ -235,6 +242,85 @@ fn grow(
     }
 }
 
+// The run after a link; `refusal` is the plain list's, `after` its trees where it serves.
+fn after_link(run: Run, refusal: u16, after: Tree, found: Linked, x: u16, v: u16) -> Run {
+    let state = run.state;
+    let before = run.tree;
+    match found {
+        Linked::Refused(r) => refused(run, number_of(r) == refusal, b'J', x, v),
+        Linked::Under(l) => {
+            let joined = members_in(before, x);
+            served(
+                run,
+                state,
+                after,
+                l.rows as u64,
+                joined,
+                refusal == 0,
+                b'J',
+                x,
+                v,
+            )
+        }
+    }
+}
+
+fn link_under(
+    fields: &mut [u16],
+    numbers: &mut [u64],
+    levels: &mut [i32],
+    ancestors: &mut [u16],
+    scratch: &mut [u16],
+    run: Run,
+    x: u16,
+    v: u16,
+    y: u16,
+) -> Run {
+    let state = run.state;
+    let tree = run.tree;
+    let found = link(fields, numbers, levels, ancestors, scratch, state, x, v, y);
+    after_link(
+        run,
+        link_refusal(tree, x, v, y),
+        with_link(tree, x, v, y),
+        found,
+        x,
+        v,
+    )
+}
+
+// The link of one turn.
+fn link_once(
+    fields: &mut [u16],
+    numbers: &mut [u64],
+    levels: &mut [i32],
+    ancestors: &mut [u16],
+    scratch: &mut [u16],
+    run: Run,
+    turn: u16,
+) -> Run {
+    let tree = run.tree;
+    let first = next(run.seed);
+    let second = next(first);
+    let third = next(second);
+    let mut r = run;
+    r.seed = third;
+    let node = below(first, tree.count);
+    let x = named(root_in(tree, node), node, third);
+    let v = below(second, tree.count);
+    link_under(
+        fields,
+        numbers,
+        levels,
+        ancestors,
+        scratch,
+        r,
+        x,
+        v,
+        label(turn, third),
+    )
+}
+
 fn passes(found: Inspected) -> bool {
     match found {
         Inspected::Passes(yes) => yes,
@@ -258,7 +344,33 @@ fn inspected(
     r
 }
 
-// One growth and an inspection.
+// One growth or link.
+fn call_once(
+    fields: &mut [u16],
+    numbers: &mut [u64],
+    levels: &mut [i32],
+    ancestors: &mut [u16],
+    scratch: &mut [u16],
+    run: Run,
+    shape: u16,
+    turn: u16,
+) -> Run {
+    if is_link(shape, turn, run.seed) {
+        return link_once(fields, numbers, levels, ancestors, scratch, run, turn);
+    }
+    grow(
+        fields,
+        numbers,
+        levels,
+        ancestors,
+        scratch,
+        run,
+        shape,
+        turn,
+    )
+}
+
+// One growth or link, and an inspection.
 fn grow_once(
     fields: &mut [u16],
     numbers: &mut [u64],
@@ -269,7 +381,7 @@ fn grow_once(
     shape: u16,
     turn: u16,
 ) -> Run {
-    let grown = grow(
+    let called = call_once(
         fields,
         numbers,
         levels,
@@ -279,7 +391,7 @@ fn grow_once(
         shape,
         turn,
     );
-    inspected(fields, numbers, levels, ancestors, scratch, grown, turn)
+    inspected(fields, numbers, levels, ancestors, scratch, called, turn)
 }
 
 // More turns than nodes: the last growths are refused.

@@ -45,6 +45,26 @@ pub fn root_of(parents: &[u16], x: u16) -> u16 {
     climb(parents, x, depth(parents, x))
 }
 
+fn one_more_if(yes: bool, n: u64) -> u64 {
+    if yes {
+        if n < 1000 {
+            return n + 1;
+        }
+    }
+    n
+}
+
+// How many of so many nodes have the root x.
+pub fn members(parents: &[u16], count: u16, x: u16) -> u64 {
+    let mut found: u64 = 0;
+    let mut k: u16 = 0;
+    while k < count {
+        found = one_more_if(root_of(parents, k) == x, found);
+        k += 1;
+    }
+    found
+}
+
 // Where the lines of x and y, equally deep, meet.
 fn meet(parents: &[u16], x: u16, y: u16) -> u16 {
     let mut a = x;

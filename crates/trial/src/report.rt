@@ -11,7 +11,8 @@ pub fn write_name(shape: u16) {
         3 => write_all(1, b"recent"),
         4 => write_all(1, b"binary"),
         5 => write_all(1, b"caterpillar"),
-        _ => write_all(1, b"several trees"),
+        6 => write_all(1, b"several trees"),
+        _ => write_all(1, b"linked trees"),
     }
     ;
 }

@@ -2,10 +2,12 @@
 use crate::naive::minus;
 use crate::random::below;
 
-// The shapes: one tree, uniform, chain, star, recent parents, binary, caterpillar; then several trees.
-pub const SHAPES: u16 = 7;
+// The shapes: one tree, uniform, chain, star, recent parents, binary, caterpillar; then several trees, and trees that are linked.
+pub const SHAPES: u16 = 8;
 
 const SEVERAL: u16 = 6;
+
+const LINKED: u16 = 7;
 
 pub enum Kind {
     Leaf,
@@ -74,13 +76,24 @@ fn kind_of_several(turn: u16, seed: u64) -> Kind {
 
 // The call of a turn.
 pub fn kind_of(shape: u16, turn: u16, seed: u64) -> Kind {
-    if shape == SEVERAL {
+    if SEVERAL <= shape {
         return kind_of_several(turn, seed);
     }
     if is_root(shape, turn, seed) {
         return Kind::Root;
     }
     Kind::Leaf
+}
+
+// Whether this turn links two trees.
+pub fn is_link(shape: u16, turn: u16, seed: u64) -> bool {
+    if shape != LINKED {
+        return false;
+    }
+    if turn < 2 {
+        return false;
+    }
+    below(seed, 5) == 0
 }
 
 // The root that a call names: that of a node's tree, now and then the node itself.

@@ -1,4 +1,5 @@
 // The plain list of 01 and 02 on arrays, for 128 nodes: parents and labels, and the count; a root has no parent. It shares nothing with the engine.
+use crate::naive::members;
 use crate::naive::of;
 use crate::naive::root_of;
 
@@ -46,15 +47,19 @@ fn with_count(t: Tree) -> Tree {
     next
 }
 
+fn is_label(label: u16) -> bool {
+    if label < 1 {
+        return false;
+    }
+    label <= 9999
+}
+
 // The refusal of a leaf, or 0.
 pub fn leaf_refusal(t: Tree, parent: u16, label: u16) -> u16 {
     if t.count <= parent {
         return 1;
     }
-    if label < 1 {
-        return 5;
-    }
-    if 9999 < label {
+    if !is_label(label) {
         return 5;
     }
     if t.count == CAPACITY {
@@ -93,6 +98,26 @@ pub fn over_refusal(t: Tree, x: u16) -> u16 {
     full_refusal(t)
 }
 
+// The refusal of a link, or 0.
+pub fn link_refusal(t: Tree, x: u16, v: u16, label: u16) -> u16 {
+    if t.count <= x {
+        return 1;
+    }
+    if t.count <= v {
+        return 1;
+    }
+    if !is_label(label) {
+        return 5;
+    }
+    if parent_of(t, x) != NONE {
+        return 10;
+    }
+    if root_in(t, v) == x {
+        return 11;
+    }
+    0
+}
+
 // A first node that is not refused.
 pub fn with_first(t: Tree) -> Tree {
     with_count(t)
@@ -119,4 +144,16 @@ pub fn with_root(t: Tree) -> Tree {
         return with_first(t);
     }
     with_over(t, root_in(t, 0))
+}
+
+// How many nodes the tree of a root has.
+pub fn members_in(t: Tree, root: u16) -> u64 {
+    let parents = t.parents;
+    members(&parents, t.count, root)
+}
+
+// A link that is not refused.
+pub fn with_link(t: Tree, x: u16, v: u16, label: u16) -> Tree {
+    let a = with_parent(t, x, v);
+    with_label(a, x, label)
 }
