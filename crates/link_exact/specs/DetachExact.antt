@@ -1,5 +1,5 @@
 -- The rows of the linked tree, detached in the lent parts, stand alone with their targets in their root fields.
-use mathlib.Core.Path.{_≡_, refl, ap, sym, _∙_}
+use mathlib.Core.Path.{_≡_, refl, ap, sym, subst, _∙_}
 use mathlib.Core.Bool.{Bool, true, false}
 use mathlib.Core.Logic.{_⊎_, inl, inr, _≢_}
 use mathlib.Core.List.{List}
@@ -36,6 +36,7 @@ use Rattle.link_laws.specs.Link.{target, Linkable}
 use Rattle.link_laws.specs.Order.{isOfTree}
 use Rattle.link_exact.specs.LinkExact.{Detached}
 use Rattle.renumber.specs.NumberWalk.{Written, written}
+use Rattle.link.specs.DetachLaws.{other-parted, tree-parted}
 use Rattle.link.specs.Detach.{keptParent, keptParents, turnedLine, lonely, partedRow, partedRows, turnedFields, detachedFrom, withLevels, detached}
 
 -- Stored parents kept as roots
@@ -171,8 +172,14 @@ record PartedTo (c n tree m w : ℕ) (p q : Parts) : Type 0 where
   low : (y : ℕ) → y < w → Kept (tableOf p n) (tableOf q n) y
   off : (y : ℕ) → entryAt (p .ancestors) y treePlace ≢ tree → Kept (tableOf p n) (tableOf q n) y
 
+-- from what the first row became
+on-row : (l : List ℤ) (c n tree m w : ℕ) (p : Written) {q : Written} → q ≡ partedRow tree w p
+    → PartedTo c n tree (suc m) w (withLevels l p) (withLevels l (partedRows tree m (suc w) q)) → PartedTo c n tree (suc m) w (withLevels l p) (withLevels l (partedRows tree (suc m) w p))
+unfolding partedRows
+on-row l c n tree m w p e k = subst (λ (q : Written). PartedTo c n tree (suc m) w (withLevels l p) (withLevels l (partedRows tree m (suc w) q))) e k
+
 parts-alone : (l : List ℤ) (c n tree m w : ℕ) (p : Written) → w + m ≤ c → Fits c (withLevels l p) → PartedTo c n tree m w (withLevels l p) (withLevels l (partedRows tree m w p))
-unfolding partedRows partedRow
+unfolding partedRows
 parts-alone v c n tree zero w p l f = record {
   fit = f;
   levels = refl;
@@ -186,7 +193,7 @@ parts-alone v c n tree (suc m) w p l f = elim (ℕ-discrete (entryAt (p .ancesto
       let i : w < c = omega arith in
       let k = parts-alone v c n tree m (suc w) (lonely p w) (omega arith) (lone-fits (withLevels v p) f w i) in
       let same : (y : ℕ) → y ≢ w → Kept (tableOf (withLevels v p) n) (tableOf (withLevels v (lonely p w)) n) y = λ y d. stays (withLevels v p) f w i n y d in
-      rw (says-true (says-eqb (entryAt (p .ancestors) w treePlace) tree) e) record {
+      on-row v c n tree m w p (tree-parted tree w p _ _ _ refl e refl refl refl) record {
         fit = k .fit;
         levels = k .levels;
         marks = λ y j o. k .marks y j o ∙ lone-marks (withLevels v p) f w i y j o;
@@ -199,7 +206,7 @@ parts-alone v c n tree (suc m) w p l f = elim (ℕ-discrete (entryAt (p .ancesto
       }
   | no d ↦
       let k = parts-alone v c n tree m (suc w) p (omega arith) f in
-      rw (says-false (says-eqb (entryAt (p .ancestors) w treePlace) tree) d) record {
+      on-row v c n tree m w p (other-parted tree w p refl d) record {
         fit = k .fit;
         levels = k .levels;
         marks = k .marks;

@@ -1,0 +1,94 @@
+-- A link from what each call leaves.
+use mathlib.Core.Path.{_≡_, refl, sym, ap, _∙_}
+use mathlib.Core.Bool.{Bool, true, false}
+use mathlib.Core.List.{List}
+use Prim.Native.Nat.{ℕ, _*_, _≤_}
+use native.Mathlib.Omega.{arith}
+use lib.Dec.{eqb, ltb}
+use lib.ListN.{length}
+use Rattle.laws.specs.Test.{says-eqb, says-get}
+use Rattle.rows.specs.declared.capacity.Fit.{Fit}
+use Rattle.rows.specs.declared.capacity.Fit.the-variants.{Capacity, Misfit as NoFit}
+use Rattle.rows.specs.declared.refusal.Refusal.{Refusal}
+use Rattle.rows.specs.declared.refusal.Refusal.the-variants.{UnknownNode, Misfit, Corrupt, BadLabel}
+use Rattle.rows.specs.declared.state.State.{State}
+use Rattle.rows.specs.Capacity.{Fits, capacityOf}
+use Rattle.rows.specs.CapacityLaws.{fits-capacity}
+use Rattle.rows.specs.Row.{Parts, partsOf, levelAt}
+use Rattle.rows.specs.State.{isStanding}
+use Rattle.rows.specs.StateLaws.{says-standing}
+use Rattle.renumber.specs.NumberWalk.{written}
+use Rattle.growth.specs.Fitting.{onFit}
+use Rattle.growth.specs.Good.{Held}
+use Rattle.growth.specs.Plan.{isLabel}
+use Rattle.growth.specs.Store.{Stored, stored}
+use Rattle.link.specs.declared.Linked.{Linked}
+use Rattle.link.specs.declared.Linked.the-variants.{Under, Refused}
+use Rattle.link.specs.declared.check.Checked.{Checked}
+use Rattle.link.specs.declared.check.Checked.the-variants.{Serve, Refuse}
+use Rattle.link.specs.Detach.{detachedFrom, detached}
+use Rattle.link.specs.Link.{outcome, provided, linkWithin, linkChecked, joinedTree, servedBy, linkedBy, linkBy, LinkCall}
+use Rattle.link.specs.Sort.{cellAt, sorted, sortedRows}
+use Rattle.link.specs.Walk.{walking, joining, joinWalk}
+
+pub tree-joined : (p : Parts) (c n tree x v door : ℕ) (heads links f m a : List ℕ) (o : Stored)
+    → sorted heads links ≡ sortedRows c (p .levels) (p .ancestors) n tree (levelAt (p .levels) x)
+    → written f m a ≡ detachedFrom (written (p .fields) (p .numbers) (p .ancestors)) n tree x v
+    → o ≡ joinWalk (2 * n) (cellAt heads) (cellAt links) n x door (walking (partsOf f m (p .levels) a) (joining (cellAt heads 0) 0 0))
+    → o ≡ joinedTree p c n tree x v door
+unfolding joinedTree detached
+tree-joined p c n tree x v door heads links f m a o e h i = rw (← e, ← h) i
+
+-- What serving tells
+
+-- a call that is served passed the tests of the scratch and the count
+served-tests : (a b d e g : Bool) (k : Checked) {tree : ℕ} → Serve tree ≡ provided a Misfit (provided b UnknownNode (provided d UnknownNode (provided e BadLabel (provided g Corrupt k))))
+    → (a ≡ true) × (g ≡ true)
+served-tests true true true true true k q = (refl, refl)
+served-tests false b d e g k q = let z : _≡_ {A = ℕ} 0 1 = cc in absurd (omega arith)
+served-tests true false d e g k q = let z : _≡_ {A = ℕ} 0 1 = cc in absurd (omega arith)
+served-tests true true false e g k q = let z : _≡_ {A = ℕ} 0 1 = cc in absurd (omega arith)
+served-tests true true true false g k q = let z : _≡_ {A = ℕ} 0 1 = cc in absurd (omega arith)
+served-tests true true true true false k q = let z : _≡_ {A = ℕ} 0 1 = cc in absurd (omega arith)
+
+-- the parts and the scratch fit a capacity, and hold all rows in use
+pub record Ready (p : Parts) (scratch n : ℕ) : Type 0 where
+  pub held : Held n (p .fields) (p .numbers) (p .levels)
+  pub most : scratch ≤ 32768
+
+module _ (p : Parts) (scratch : ℕ) (s : State) (x v door : ℕ) where
+  ready-within : {c tree : ℕ} → capacityOf p ≡ Capacity c → Serve tree ≡ linkWithin p c scratch s x v door → Ready p scratch (s .count)
+  unfolding linkWithin
+  ready-within {c} f e =
+      let q = served-tests (eqb scratch c) (ltb x (s .count)) (ltb v (s .count)) (isLabel door) (isStanding c s) _ e in
+      let fit : Fits c p = fits-capacity p c f in
+      let l : s .count ≤ c = says-get (says-standing c s) (q .1) in
+      let same : scratch ≡ c = says-get (says-eqb scratch c) (q .0) in
+      record {
+        held = record { fields = omega (arith, fit .fields); numbers = omega (arith, fit .numbers); levels = omega (arith, fit .levels) };
+        most = omega (arith, fit .most);
+      }
+
+  pub serve-ready : {r : Checked} {tree : ℕ} → r ≡ linkChecked p scratch s x v door → r ≡ Serve tree → Ready p scratch (s .count)
+  unfolding linkChecked
+  serve-ready {tree = tree} e h = go (capacityOf p) refl (sym h ∙ e)
+    where
+      go : (f : Fit) → capacityOf p ≡ f → Serve tree ≡ onFit f (λ c. linkWithin p c scratch s x v door) (Refuse Misfit) → Ready p scratch (s .count)
+      go (Capacity c) f k = ready-within f k
+      go NoFit f k = let z : _≡_ {A = ℕ} 0 1 = cc in absurd (omega arith)
+
+-- The call
+
+module _ (p : Parts) (scratch : List ℕ) (s : State) (x v door : ℕ) {k : Checked} (e : k ≡ linkChecked p (length scratch) s x v door) where
+  pub call-refused : {why : Refusal} → k ≡ Refuse why → LinkCall p p scratch scratch s x v door (Refused why)
+  unfolding linkBy linkedBy
+  call-refused h = record { outcome = rw (← e, h) refl; long = refl; unchanged = λ w z. refl }
+
+  pub call-served : {tree rows : ℕ} {p′ : Parts} {scratch′ : List ℕ} → k ≡ Serve tree → stored p′ rows ≡ joinedTree p (length scratch) (s .count) tree x v door
+      → length scratch′ ≡ length scratch → LinkCall p p′ scratch scratch′ s x v door (Under (record { rows = rows }))
+  unfolding linkBy linkedBy servedBy
+  call-served h i l = record {
+    outcome = rw (← e, h, ← i) refl;
+    long = l;
+    unchanged = λ w z. let y : _≡_ {A = ℕ} 0 1 = cc in absurd (omega arith);
+  }
