@@ -10,10 +10,11 @@ use Rattle.rows.specs.declared.state.State.{State}
 use Rattle.rows.specs.Row.{Parts}
 use Rattle.set_up.specs.Blank.{setUp, partsAfter}
 use Rattle.growth.specs.Growth.{Outcome as GrowthOutcome, addFirst, addLeaf, addOver}
+use Rattle.link.specs.Link.{Outcome as LinkOutcome, linkBy}
 use Rattle.query.specs.Question.{question}
 use Rattle.alike.specs.Alike.{alike}
 use Rattle.inspect.specs.Inspection.{inspection}
-use Rattle.replies.specs.Reply.{Reply, misfit, madeReply, grownReply, questionReply, alikeReply, inspectionReply}
+use Rattle.replies.specs.Reply.{Reply, misfit, madeReply, grownReply, linkReply, questionReply, alikeReply, inspectionReply}
 
 -- the count, as it goes in
 abbrev pub stateOf : ℕ → State
@@ -47,6 +48,18 @@ leafCall t out scratch s parent label = growthCall t out (addLeaf t scratch s pa
 
 abbrev pub rootCall : Parts → List ℕ → ℕ → State → ℕ → Outcome
 rootCall t out scratch s x = growthCall t out (addOver t scratch s x)
+
+-- a link's reply and parts
+abbrev pub afterLink : Parts → List ℕ → LinkOutcome → Outcome
+afterLink t out l = onLength 1 out (outcome (l .parts) (linkReply out (l .linked))) (outcome t (misfit out))
+
+unfoldable pub linkCall : Parts → List ℕ → ℕ → State → ℕ → ℕ → ℕ → Outcome
+linkCall t out scratch s x v door = afterLink t out (linkBy t scratch s x v door)
+
+-- the outcome of a link; the scratch is unchanged on a refusal, and may hold anything of its length on success
+pub record LinkCall (t : Parts) (out scratch : List ℕ) (s : State) (x v door : ℕ) (after : List ℕ) (o : Outcome) : Type 0 where
+  pub outcome : o ≡ linkCall t out (length scratch) s x v door
+  pub unchanged : 0 < o .replied .number → after ≡ scratch
 
 unfoldable pub questionCall : Parts → List ℤ → State → ℕ → ℕ → Reply ℤ
 questionCall t out s x y = onLength 6 out (questionReply out (question t s x y)) (misfit out)

@@ -22,6 +22,9 @@ use Rattle.set_up.specs.Blank.{setUp, partsAfter}
 use Rattle.growth.specs.declared.Grown.{Grown}
 use Rattle.growth.specs.Growth.{Outcome as GrowthOutcome}
 use Rattle.growth.specs.Growth as growth
+use Rattle.link.specs.declared.Linked.{Linked}
+use Rattle.link.specs.declared.Linked.the-variants.{Under, Refused as NotLinked}
+use Rattle.link.specs.Link as link
 use Rattle.query.specs.Outcome.{Outcome as QuestionOutcome}
 use Rattle.query.specs.Question.{question}
 use Rattle.alike.specs.Outcome.{Outcome as AlikeOutcome}
@@ -30,8 +33,8 @@ use Rattle.inspect_laws.specs.Inspects.{inspects}
 use Rattle.inspect.specs.declared.Inspected.{Inspected}
 use Rattle.inspect.specs.declared.Inspected.the-variants.{Passes, Refused}
 use Rattle.inspect.specs.Inspection.{inspection, inspectionIn, Inspection}
-use Rattle.replies.specs.Reply.{Reply, reply, misfit, madeReply, grownReply, questionReply, alikeReply, inspectionReply}
-use Rattle.desk.specs.TableCalls.{onLength, outcome, setUpCall, growthCall, questionCall, alikeCall, inspectionCall, InspectionCall}
+use Rattle.replies.specs.Reply.{Reply, reply, misfit, madeReply, grownReply, linkReply, questionReply, alikeReply, inspectionReply}
+use Rattle.desk.specs.TableCalls.{onLength, outcome, setUpCall, growthCall, linkCall, LinkCall, questionCall, alikeCall, inspectionCall, InspectionCall}
 
 -- Any out slice
 
@@ -60,6 +63,23 @@ module _ (t u : Parts) (out after : List ℕ) {r : ℕ} where
   pub growth-served : (g : Grown) (o : GrowthOutcome) → length out ≡ 3 → reply r after ≡ grownReply out g → growth.outcome u g ≡ o → outcome u (reply r after) ≡ growthCall t out o
   unfolding growthCall
   growth-served g o e h a = rw (h, ← a) (on-length 3 out (outcome u (grownReply out g)) _ e)
+
+module _ (t : Parts) (out scratch : List ℕ) (s : State) (x v door : ℕ) {r : ℕ} where
+  pub link-misfit : r ≡ 3 → length out ≢ 1 → LinkCall t out scratch s x v door scratch (outcome t (reply r out))
+  unfolding linkCall
+  link-misfit h e = record { outcome = rw h (off-length 1 out _ (outcome t (misfit out)) e); unchanged = λ _. refl }
+
+  pub link-served : (u : Parts) (after left : List ℕ) (l : Linked) → length out ≡ 1 → link.LinkCall t u scratch left s x v door l → reply r after ≡ linkReply out l
+      → LinkCall t out scratch s x v door left (outcome u (reply r after))
+  unfolding linkCall
+  link-served u after left l e q h = record {
+    outcome = rw (h, ← q .outcome) (on-length 1 out (outcome u (linkReply out l)) _ e);
+    unchanged = go l q h;
+  }
+    where
+      go : (l : Linked) → link.LinkCall t u scratch left s x v door l → reply r after ≡ linkReply out l → 0 < r → left ≡ scratch
+      go (Under j) q h p = let z : r ≡ 0 = ap (λ (p : Reply ℕ). p .number) h in absurd (omega arith)
+      go (NotLinked n) q h p = q .unchanged n refl
 
 -- inspection refuses only a misfit
 pub inspection-refused : (t : Parts) (cells : ℕ) (s : State) (r : Refusal) → inspection t cells s ≡ Refused r → inspection t cells s ≡ Refused Misfit

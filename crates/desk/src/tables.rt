@@ -3,6 +3,7 @@ use replies::reply_answered;
 use replies::reply_compared;
 use replies::reply_grown;
 use replies::reply_inspected;
+use replies::reply_linked;
 use replies::reply_made;
 use rows::refusal::Refusal;
 use rows::refusal::number_of;
@@ -11,7 +12,7 @@ ghost use mathlib.Core.Path.{_≡_};
 ghost use lib.ListN.{length};
 ghost use Rattle.rows.specs.Row.{partsOf};
 ghost use Rattle.replies.specs.Reply.{reply};
-ghost use Rattle.desk.specs.TableCalls.{stateOf, outcome, setUpCall, firstCall, leafCall, rootCall, questionCall, alikeCall, InspectionCall};
+ghost use Rattle.desk.specs.TableCalls.{stateOf, outcome, setUpCall, firstCall, leafCall, rootCall, LinkCall, questionCall, alikeCall, InspectionCall};
 
 // An empty table. Out: count.
 #[no_mangle]
@@ -104,6 +105,40 @@ pub extern "C" fn nca_table_add_root(
     let state = State { count: count };
     let grown = growth::add_root_over(fields, numbers, levels, ancestors, scratch, state, x);
     reply_grown(grown, out)
+}
+
+// The tree of root x under v, a node of another tree; x takes the label. Out: rows renumbered.
+#[no_mangle]
+pub extern "C" fn nca_table_link(
+    fields: &mut [u16],
+    numbers: &mut [u64],
+    levels: &mut [i32],
+    ancestors: &mut [u16],
+    scratch: &mut [u16],
+    count: u16,
+    x: u16,
+    v: u16,
+    label: u16,
+    out: &mut [u32],
+) -> u16
+    ensures { λ r. ⌜ LinkCall (partsOf (now (fields .entry)) (now (numbers .entry)) (now (levels .entry)) (now (ancestors .entry))) (now (out .entry)) (now (scratch .entry)) (stateOf count) x v label (now (scratch .exit)) (outcome (partsOf (now (fields .exit)) (now (numbers .exit)) (now (levels .exit)) (now (ancestors .exit))) (reply r (now (out .exit)))) ⌝ }
+{
+    if out.len() != 1 {
+        return number_of(Refusal::Misfit);
+    }
+    let state = State { count: count };
+    let linked = link::link(
+        fields,
+        numbers,
+        levels,
+        ancestors,
+        scratch,
+        state,
+        x,
+        v,
+        label,
+    );
+    reply_linked(linked, out)
 }
 
 // The characteristic ancestors of x and y. Out: nearest common ancestor, branches towards x and y, distances of x and y, label.

@@ -4,6 +4,7 @@ pub mod bytes;
 use alike::Compared;
 use growth::Grown;
 use inspect::Inspected;
+use link::Linked;
 use query::Answered;
 use rows::refusal::number_of;
 use set_up::Made;
@@ -14,7 +15,7 @@ ghost use lib.ListN.{length};
 ghost use Rattle.laws.specs.Test.{bit};
 ghost use Rattle.query.specs.Outcome.{outcomeOf as answerOf};
 ghost use Rattle.alike.specs.Outcome.{outcomeOf as comparisonOf};
-ghost use Rattle.replies.specs.Reply.{reply, madeReply, grownReply, questionReply, alikeReply, inspectionReply};
+ghost use Rattle.replies.specs.Reply.{reply, madeReply, grownReply, linkReply, questionReply, alikeReply, inspectionReply};
 
 fn signed(x: u16) -> i32
     ensures { λ r. ⌜ r ≡ pos x ⌝ }
@@ -29,6 +30,13 @@ fn bit_of(b: bool) -> u16
 }
 
 fn put_one(out: &mut [u16], a: u16)
+    requires { ⌜ length (now out) ≡ 1 ⌝ }
+    ensures { λ _. ⌜ now (out .exit) ≡ a ∷ [] ⌝ }
+{
+    out[0] = a;
+}
+
+fn put_wide(out: &mut [u32], a: u32)
     requires { ⌜ length (now out) ≡ 1 ⌝ }
     ensures { λ _. ⌜ now (out .exit) ≡ a ∷ [] ⌝ }
 {
@@ -80,6 +88,19 @@ pub fn reply_grown(grown: Grown, out: &mut [u16]) -> u16
             0
         }
         Grown::Refused(r) => number_of(r),
+    }
+}
+
+pub fn reply_linked(linked: Linked, out: &mut [u32]) -> u16
+    requires { ⌜ length (now out) ≡ 1 ⌝ }
+    ensures { λ r. ⌜ reply r (now (out .exit)) ≡ linkReply (now (out .entry)) linked ⌝ }
+{
+    match linked {
+        Linked::Under(l) => {
+            put_wide(out, l.rows);
+            0
+        }
+        Linked::Refused(r) => number_of(r),
     }
 }
 
