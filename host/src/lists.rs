@@ -5,9 +5,7 @@ use crate::lent::Lent;
 use crate::plain::Plain;
 use crate::random::Random;
 use crate::rules;
-#[cfg(link)]
-use crate::stored::Linked;
-use crate::stored::Stored;
+use crate::stored::{Linked, Stored};
 use crate::tally::{check, equal};
 
 /// How parents are chosen.
@@ -174,10 +172,6 @@ impl List {
         self.renumbered(u64::from(grown.rows), 1, random);
     }
 
-    #[cfg(not(link))]
-    fn link(&mut self, _: &mut Random) {}
-
-    #[cfg(link)]
     fn link(&mut self, random: &mut Random) {
         let mut scratch = self.lend(random);
         let (x, v, label) = (self.root(random), self.node(random), List::label(random));
