@@ -93,6 +93,10 @@ static unsigned table_add_root(struct growth *g) {
     return refusal;
 }
 
+static unsigned table_link(unsigned x, unsigned v, unsigned label, uint32_t *rows) {
+    return nca_table_link(PARTS, scratch, CAPACITY, table.count, (uint16_t)x, (uint16_t)v, (uint16_t)label, rows, 1);
+}
+
 static unsigned table_query(unsigned x, unsigned y, struct answer *a) {
     int32_t out[6];
     unsigned refusal = nca_table_query(PARTS, table.count, (uint16_t)x, (uint16_t)y, out, 6);
@@ -232,11 +236,12 @@ static void table_calls(void) {
     table.levels[1] -= 1;
 }
 
-/* Two trees in one table. */
+/* Two trees in one table, and the second linked under a node of the first. */
 static void several_trees(void) {
     struct growth g = {0, 0, 0};
     struct answer a = {{0}};
     uint16_t yes = 9;
+    uint32_t rows = 9;
     expect(table_set_up() == 0, "set-up is served");
     expect(table_add_first(&g) == 0 && g.node == 0 && g.rows == 1, "a first node is served");
     expect(table_add_leaf(0, 7, &g) == 0 && g.node == 1, "a leaf of the first tree is served");
@@ -246,6 +251,12 @@ static void several_trees(void) {
     expect(table_add_root_over(1, &g) == NCA_NOT_ROOT, "a new root goes over a root");
     expect(table_add_root_over(2, &g) == 0 && g.node == 3 && g.level == -1, "also that of the second tree");
     expect(table_query(2, 3, &a) == 0 && a.values[0] == 3, "which then answers");
+    expect(table_link(2, 1, 5, &rows) == NCA_NOT_ROOT, "a node that is no root is not linked");
+    expect(table_link(3, 2, 5, &rows) == NCA_SAME_TREE, "nor is a root under its own tree");
+    expect(table_link(3, 1, 0, &rows) == NCA_BAD_LABEL && rows == 9, "a link has a label");
+    expect(table_link(3, 1, 5, &rows) == 0 && rows == 7, "the second tree is linked");
+    expect(table.levels[3] == 2 && table.levels[2] == 3, "its levels shift");
+    expect(table_query(2, 0, &a) == 0 && a.values[0] == 0 && a.values[1] == 1 && a.values[3] == 3, "and both answer together");
     expect(nca_table_inspect(PARTS, scratch, CAPACITY, table.count, &yes, 1) == 0 && yes == 1, "the table passes inspection");
 }
 

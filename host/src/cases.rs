@@ -42,7 +42,6 @@ pub fn misfits() -> String {
             equal(table.add_leaf(&scratch, 9, 0).map(|_| ()), Err(3), what);
             equal(table.add_first(&scratch).map(|_| ()), Err(3), what);
             equal(table.add_root(&scratch, 9).map(|_| ()), Err(3), what);
-            #[cfg(link)]
             equal(table.link(&mut scratch, 9, 9, 0), Err(3), what);
             equal(table.query(9, 9).map(|_| ()), Err(3), what);
             equal(table.alike(9, 9).map(|_| ()), Err(3), what);

@@ -236,11 +236,7 @@ fn grow(table: &Table, good: bool, random: &mut Random) {
     grown("new root", &over, expected, found, decided);
 }
 
-#[cfg(not(link))]
-fn link(_: &Table, _: bool, _: &mut Random) {}
-
 /// A link is served exactly where nothing else refuses it and inspection passes.
-#[cfg(link)]
 fn link(table: &Table, good: bool, random: &mut Random) {
     let capacity = table.levels.part().len();
     let length = if random.one_in(12) { capacity + 1 } else { capacity };

@@ -79,7 +79,6 @@ mod raw {
             out: *mut u16,
             out_len: usize,
         ) -> u16;
-        #[cfg(link)]
         pub fn nca_table_link(
             fields: *mut u16,
             fields_len: usize,
@@ -312,7 +311,6 @@ impl Table {
     }
 
     /// The tree of root x under v, x with this label: the rows renumbered.
-    #[cfg(link)]
     pub fn link(&mut self, scratch: &mut Lent<u16>, x: u16, v: u16, label: u16) -> Reply<u32> {
         let (before, kept, mut out) = (self.copy(), scratch.clone(), Lent::<u32>::marked(1));
         let (s, o) = (scratch.part_mut(), out.part_mut());

@@ -57,13 +57,11 @@ fn root_astray() {
     equal(table.query(0, 1), Err(4), || "a question to a tree without root".into());
     equal(table.alike(0, 1), Err(4), || "alike of a tree without root".into());
     equal(table.query(0, 2), Err(12), || "another tree comes before the root".into());
-    #[cfg(link)]
     equal(table.link(&mut scratch, 0, 2, 5), Err(4), || "a link of a tree without root".into());
     equal(table.inspect(&mut scratch), Ok(0), || "inspection of a tree without root".into());
 }
 
 /// Two first nodes that fill a table, one linked under the other.
-#[cfg(link)]
 fn full_table() {
     let (mut table, mut scratch) = empty(2);
     (0..2).for_each(|x| equal(table.add_first(&scratch).map(|g| g.node), Ok(x), || "a first node".into()));
@@ -74,7 +72,6 @@ fn full_table() {
 }
 
 /// A tree with new roots is turned round by its link.
-#[cfg(link)]
 fn turned_tree() {
     let (mut table, mut scratch) = empty(4);
     equal(table.add_first(&scratch).map(|g| g.node), Ok(0), || "a first node".into());
@@ -96,7 +93,6 @@ fn turned_tree() {
 }
 
 /// A table that does not pass: 10 and 11 come before 4, and the scratch keeps its pattern, as `Table::link` checks.
-#[cfg(link)]
 fn not_ours() {
     let (mut table, mut scratch) = two_trees();
     table.fields.part_mut()[LABEL] = 7;
@@ -108,7 +104,6 @@ fn not_ours() {
 }
 
 /// Two paths of 128 nodes, the first linked under a node of the second.
-#[cfg(link)]
 fn paths(under: u16, rows: u32) {
     let (mut table, mut scratch) = empty(256);
     let mut total = 0;
@@ -125,13 +120,10 @@ fn paths(under: u16, rows: u32) {
 pub fn cases() -> String {
     trees_apart();
     root_astray();
-    #[cfg(link)]
-    {
-        full_table();
-        turned_tree();
-        not_ours();
-        paths(255, 1618);
-        paths(128, 1831);
-    }
+    full_table();
+    turned_tree();
+    not_ours();
+    paths(255, 1618);
+    paths(128, 1831);
     "7 tables".into()
 }

@@ -5,9 +5,7 @@ use crate::lent::Lent;
 use crate::plain::Plain;
 use crate::random::Random;
 use crate::rules;
-#[cfg(link)]
-use crate::stored::Linked;
-use crate::stored::Stored;
+use crate::stored::{Linked, Stored};
 use crate::tally::{check, equal};
 
 /// How parents are chosen.
@@ -67,6 +65,8 @@ pub struct List {
     total: u64,
     /// A node that is added counts once, and once more in each link that moves it.
     joinings: u64,
+    /// Links that were served.
+    links: usize,
 }
 
 impl List {
@@ -82,6 +82,7 @@ impl List {
             mix,
             total: 0,
             joinings: 0,
+            links: 0,
         }
     }
 
@@ -142,10 +143,15 @@ impl List {
     }
 
     fn add_leaf(&mut self, random: &mut Random) {
-        let (scratch, count) = (self.lend(random), self.plain.count());
+        let count = self.plain.count();
         let parent = if count == 0 || random.one_in(24) { self.node(random) } else { self.shape.parent(count, random) as u16 };
-        let label = List::label(random);
-        let (found, expected) = (self.table.add_leaf(&scratch, parent, label), self.plain.add_leaf(scratch.part().len(), parent, label));
+        self.add_leaf_under(parent, random);
+    }
+
+    fn add_leaf_under(&mut self, parent: u16, random: &mut Random) {
+        let (scratch, label) = (self.lend(random), List::label(random));
+        let found = self.table.add_leaf(&scratch, parent, label);
+        let expected = self.plain.add_leaf(scratch.part().len(), parent, label);
         self.grown("leaf", found, expected, random, |stored| stored.add_leaf(parent, label));
     }
 
@@ -174,18 +180,20 @@ impl List {
         self.renumbered(u64::from(grown.rows), 1, random);
     }
 
-    #[cfg(not(link))]
-    fn link(&mut self, _: &mut Random) {}
-
-    #[cfg(link)]
     fn link(&mut self, random: &mut Random) {
-        let mut scratch = self.lend(random);
-        let (x, v, label) = (self.root(random), self.node(random), List::label(random));
+        let x = self.root(random);
+        let v = self.other(x, false, random);
+        self.link_under(x, v, random);
+    }
+
+    fn link_under(&mut self, x: u16, v: u16, random: &mut Random) {
+        let (mut scratch, label) = (self.lend(random), List::label(random));
         let fits = scratch.part().len();
         let found = self.table.link(&mut scratch, x, v, label);
         let expected = self.plain.link(fits, x, v, label);
         equal(found.map(|_| ()), expected.map(|_| ()), || self.describe(&format!("link {x} {v}")));
         let (Ok(rows), Ok(joined)) = (found, expected) else { return };
+        self.links += 1;
         if let Some(stored) = &mut self.stored {
             let expected = stored.link(x, v, label);
             equal(Linked { rows: u64::from(rows), joined }, expected, || self.describe(&format!("link {x} {v}")));
@@ -212,12 +220,13 @@ impl List {
         format!("{what}, {} nodes at capacity {}, {:?}", self.plain.count(), self.capacity, self.shape)
     }
 
-    /// Mostly another node of x's tree.
-    fn other(&self, x: u16, random: &mut Random) -> u16 {
+    /// Another node, mostly of x's tree, or mostly of another one.
+    fn other(&self, x: u16, kindred: bool, random: &mut Random) -> u16 {
         let mut y = self.node(random);
         let count = self.plain.count();
-        for _ in 0..3 {
-            if (x as usize) < count && (y as usize) < count && self.plain.root_of(x) != self.plain.root_of(y) && !random.one_in(8) {
+        for _ in 0..4 {
+            let known = (x as usize) < count && (y as usize) < count;
+            if known && (self.plain.root_of(x) == self.plain.root_of(y)) != kindred && !random.one_in(8) {
                 y = self.node(random);
             }
         }
@@ -226,13 +235,13 @@ impl List {
 
     pub fn ask(&mut self, random: &mut Random) {
         let x = self.node(random);
-        let y = if random.one_in(8) { x } else { self.other(x, random) };
+        let y = if random.one_in(8) { x } else { self.other(x, true, random) };
         equal(self.table.query(x, y), self.plain.query(x, y), || self.describe(&format!("question {x} {y}")));
     }
 
     pub fn compare(&mut self, random: &mut Random) {
         let x = self.node(random);
-        let y = self.other(x, random);
+        let y = self.other(x, true, random);
         equal(self.table.alike(x, y), self.plain.alike(x, y), || self.describe(&format!("alike {x} {y}")));
     }
 
@@ -255,7 +264,7 @@ impl List {
 
 /// Small trees: every pair is asked, and the naive rules look at every table.
 pub fn small() -> String {
-    let mut random = Random::new(1);
+    let (mut random, mut links) = (Random::new(1), 0);
     for round in 0..480 {
         let capacity = 1 + round % 20;
         let mut list = List::new(capacity, SHAPES[round % 6], MIXES[round / 6 % 4], &mut random);
@@ -269,13 +278,14 @@ pub fn small() -> String {
                 equal(list.table.alike(x, y), list.plain.alike(x, y), || format!("alike {x} {y}"));
             }
         }
+        links += list.links;
     }
-    "480 lists".into()
+    format!("480 lists, {links} links")
 }
 
 /// Lists at capacities between, the stored trees beside them.
 pub fn middle() -> String {
-    let mut random = Random::new(2);
+    let (mut random, mut links) = (Random::new(2), 0);
     for (round, capacity) in [40, 64, 100, 127, 128, 129, 200, 256, 500, 1000, 1024].into_iter().enumerate() {
         for shape in SHAPES {
             let mut list = List::new(capacity, shape, MIXES[(round + shape as usize) % 4], &mut random);
@@ -286,9 +296,10 @@ pub fn middle() -> String {
                     list.grow(&mut random)
                 }
             }
+            links += list.links;
         }
     }
-    "66 lists".into()
+    format!("66 lists, {links} links")
 }
 
 /// Large capacities to the last row, new roots, first nodes and links among the leaves, and links once it is full.
@@ -298,7 +309,7 @@ pub fn large() -> String {
         Mix { firsts: 1000, roots: 50, links: 600 },
         Mix { firsts: 40, roots: 100_000, links: 100 },
     ];
-    let (mut random, mut most) = (Random::new(3), 0f64);
+    let (mut random, mut most, mut links) = (Random::new(3), 0f64, 0);
     for (round, shape) in SHAPES.into_iter().enumerate() {
         let capacity = [32768, 5000, 32768, 20000, 32768, 32768][round];
         let mut list = List::new(capacity, shape, LARGE[round % 3], &mut random);
@@ -316,6 +327,32 @@ pub fn large() -> String {
         list.inspect(&mut random);
         (0..2000).for_each(|_| list.ask(&mut random));
         most = most.max(list.total as f64 / list.joinings as f64);
+        links += list.links;
     }
-    format!("6 lists, at most {most:.1} rows renumbered for each joining")
+    format!("6 lists, {links} links, at most {most:.1} rows renumbered for each joining")
+}
+
+/// Two trees that fill a table of 32,768 rows, the second linked under the last node of the first.
+pub fn halves() -> String {
+    const HALF: usize = 16384;
+    let (mut random, mut most) = (Random::new(9), 0f64);
+    for shape in [Shape::Uniform, Shape::Chain, Shape::Binary] {
+        let mut list = List::new(2 * HALF, shape, MIXES[0], &mut random);
+        for first in [0, HALF] {
+            while list.plain.count() == first {
+                list.add_first(&mut random);
+            }
+            while list.plain.count() < first + HALF {
+                let parent = first + shape.parent(list.plain.count() - first, &mut random);
+                list.add_leaf_under(parent as u16, &mut random);
+            }
+        }
+        while list.plain.is_root(HALF as u16) {
+            list.link_under(HALF as u16, HALF as u16 - 1, &mut random);
+        }
+        list.inspect(&mut random);
+        (0..1000).for_each(|_| list.ask(&mut random));
+        most = most.max(list.total as f64 / list.joinings as f64);
+    }
+    format!("3 lists, at most {most:.1} rows renumbered for each joining")
 }

@@ -22,7 +22,7 @@ mod vectors;
 use std::process::ExitCode;
 
 /// A group of tests, and what it says of itself beside its counts.
-const GROUPS: [(&str, fn() -> String); 14] = [
+const GROUPS: [(&str, fn() -> String); 15] = [
     ("capacities 0, 1, 32,768 and 32,769", cases::capacities),
     ("parts that do not fit", cases::misfits),
     ("labels and the last node", cases::limits),
@@ -31,6 +31,7 @@ const GROUPS: [(&str, fn() -> String); 14] = [
     ("lists of calls at capacities to 20", lists::small),
     ("lists of calls at capacities to 1,024", lists::middle),
     ("lists of calls at capacities to 32,768", lists::large),
+    ("two trees of 16,384 nodes, linked", lists::halves),
     ("damaged tables", damage::tables),
     ("tables that no list of calls makes", damage::unreachable),
     ("byte trees that do not fit", trees::misfits),

@@ -19,7 +19,6 @@ impl Plain {
         Plain { capacity, parent, label }
     }
 
-    #[cfg(link)]
     pub fn same_trees(&self, other: &Plain) -> bool {
         self.parent == other.parent && self.label == other.label
     }

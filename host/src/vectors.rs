@@ -58,12 +58,6 @@ impl List {
         }
     }
 
-    #[cfg(not(link))]
-    fn link(&mut self, _: &mut Lent<u16>, _: u16, _: u16, _: u16) -> Numbers {
-        Err(0)
-    }
-
-    #[cfg(link)]
     fn link(&mut self, scratch: &mut Lent<u16>, x: u16, v: u16, label: u16) -> Numbers {
         let rows = self.table.link(scratch, x, v, label)?;
         let linked = self.stored.link(x, v, label);
@@ -139,10 +133,6 @@ pub fn lists() -> String {
         if let Some(capacity) = line.strip_prefix("capacity ") {
             list = Some(List::new(count, capacity.parse().expect("a capacity")));
             count += 1;
-        }
-        #[cfg(not(link))]
-        if line.starts_with("H") {
-            list = None;
         }
         let Some(list) = &mut list else { continue };
         if let Some((call, reply)) = line.split_once(" -> ") {
