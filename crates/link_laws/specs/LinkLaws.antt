@@ -100,17 +100,26 @@ module _ {capacity : ℕ} {t d : Table} {x v door k : ℕ} (r : Rules capacity t
   pub link-keeps-rules : Rules capacity d
   link-keeps-rules = rules-of (grows-recorded r small link-numbered grows (omega (arith, count-is, r .one .count))) link-numbered
 
+  -- where row w comes, and its label
+  plain-is : {w : ℕ} → w < t .count → plain d w ≡ target t x v w
+  plain-is {w} l = elim (ℕ-discrete (first t w) (first t x)) [
+    | yes e ↦ plain-joined r small link-numbered grows w (omega (arith, count-is)) (λ p. p .other e) ∙ came l e .under
+    | no n ↦ plain-old r small link-numbered grows w record { inside = l; other = n } ∙ (rw (says-false (says-eqb w x) (λ z. n (ap (first t) z))) refl)
+  ]
+
+  label-is : {w : ℕ} → w < t .count → label d w ≡ labelled t x door w
+  label-is {w} l = elim (ℕ-discrete (first t w) (first t x)) [
+    | yes e ↦ came l e .label
+    | no n ↦ rest record { inside = l; other = n } .sameLabel ∙ q .labels w l ∙ (rw (says-false (says-eqb w x) (λ z. n (ap (first t) z))) refl)
+  ]
+
   pub link-plain : PlainLink t d x v door
   link-plain = record {
     count = count-is;
-    parents = λ w l. elim (ℕ-discrete (first t w) (first t x)) [
-      | yes e ↦ plain-joined r small link-numbered grows w (omega (arith, count-is)) (λ p. p .other e) ∙ came l e .under
-      | no n ↦ plain-old r small link-numbered grows w record { inside = l; other = n } ∙ (rw (says-false (says-eqb w x) (λ z. n (ap (first t) z))) refl)
-    ];
-    labels = λ w l. elim (ℕ-discrete (first t w) (first t x)) [
-      | yes e ↦ came l e .label
-      | no n ↦ rest record { inside = l; other = n } .sameLabel ∙ q .labels w l ∙ (rw (says-false (says-eqb w x) (λ z. n (ap (first t) z))) refl)
-    ];
+    under = rw (says-true (says-eqb x x) refl) at (plain-is (q .linkable .inUse));
+    parents = λ w l n. rw (says-false (says-eqb w x) n) at (plain-is l);
+    labelled = rw (says-true (says-eqb x x) refl) at (label-is (q .linkable .inUse));
+    labels = λ w l n. rw (says-false (says-eqb w x) n) at (label-is l);
   }
 
   -- the rows renumbered are paid for by the lag and 120 for each row that joined

@@ -149,8 +149,8 @@ module _ {capacity : ℕ} {t : Table} {x v door : ℕ} (r : Rules capacity t) (s
     nearer w i j = elim (ℕ-discrete w x) [
       | yes z ↦ absurd (h .other (first-is num (rw (says-true (says-eqb w x) z) at j)))
       | no n ↦
-          let s = some (i .inUse) (first-is num i) n in
-          rw (says-false (says-eqb w x) n, plain-tree r small i) (omega (arith, deep .step w (i .inUse) s))
+          let e : target t x v w ≡ treeParent t (first t x) w = rw (says-false (says-eqb w x) n) (plain-tree r small i) in
+          rw e (omega (arith, deep .step w (i .inUse) (some (i .inUse) (first-is num i) n)))
     ]
 
     before-from : (ys : List ℕ) → ((w : ℕ) → Member ys w → InTree t (first t x) w) → Rises (Precedes t x) ys → Before (target t x v) ys
