@@ -9,42 +9,60 @@
 class Engine {
 public:
     static constexpr const char *name = "engine";
-    static constexpr double bytes_per_row = 284;
+    static constexpr double bytes_per_row = 288;
 
     explicit Engine(uint32_t capacity)
-        : fields(10 * capacity), numbers(2 * capacity), levels(capacity), ancestors(122 * capacity), scratch(capacity) {
-        uint16_t out[2];
+        : fields(12 * capacity), numbers(2 * capacity), levels(capacity), ancestors(122 * capacity), scratch(capacity) {
         served(nca_table_set_up(fields.data(), fields.size(), numbers.data(), numbers.size(), levels.data(), levels.size(), ancestors.data(),
-                                ancestors.size(), out, 2));
-        count = out[0];
-        root = out[1];
+                                ancestors.size(), &count, 1));
+    }
+
+    uint16_t add_first() {
+        uint16_t out[3];
+        served(nca_table_add_first(fields.data(), fields.size(), numbers.data(), numbers.size(), levels.data(), levels.size(), ancestors.data(),
+                                   ancestors.size(), scratch.data(), scratch.size(), count, out, 3));
+        return grown(out);
     }
 
     uint16_t add_leaf(uint16_t parent, uint16_t label) {
-        uint16_t out[4];
+        uint16_t out[3];
         served(nca_table_add_leaf(fields.data(), fields.size(), numbers.data(), numbers.size(), levels.data(), levels.size(), ancestors.data(),
-                                  ancestors.size(), scratch.data(), scratch.size(), count, root, parent, label, out, 4));
+                                  ancestors.size(), scratch.data(), scratch.size(), count, parent, label, out, 3));
         return grown(out);
     }
 
+    // A new root over the last one, or the first node.
     uint16_t add_root() {
-        uint16_t out[4];
+        if (count == 0) {
+            root = 0;
+            return add_first();
+        }
+        uint16_t out[3];
         served(nca_table_add_root(fields.data(), fields.size(), numbers.data(), numbers.size(), levels.data(), levels.size(), ancestors.data(),
-                                  ancestors.size(), scratch.data(), scratch.size(), count, root, out, 4));
+                                  ancestors.size(), scratch.data(), scratch.size(), count, root, out, 3));
+        root = out[1];
         return grown(out);
+    }
+
+    // The tree of root x under v: the rows renumbered.
+    uint32_t link(uint16_t x, uint16_t v, uint16_t label) {
+        uint32_t rows = 0;
+        served(nca_table_link(fields.data(), fields.size(), numbers.data(), numbers.size(), levels.data(), levels.size(), ancestors.data(),
+                              ancestors.size(), scratch.data(), scratch.size(), count, x, v, label, &rows, 1));
+        return rows;
     }
 
     Answer query(uint16_t x, uint16_t y) const {
         int32_t out[6];
         served(nca_table_query(fields.data(), fields.size(), numbers.data(), numbers.size(), levels.data(), levels.size(), ancestors.data(),
-                               ancestors.size(), count, root, x, y, out, 6));
+                               ancestors.size(), count, x, y, out, 6));
         return {uint16_t(out[0]), uint16_t(out[1]), uint16_t(out[2]), out[3], out[4], uint16_t(out[5])};
     }
 
     bool inspect() {
         uint16_t out[1];
         served(nca_table_inspect(fields.data(), fields.size(), numbers.data(), numbers.size(), levels.data(), levels.size(), ancestors.data(),
-                                 ancestors.size(), scratch.data(), scratch.size(), count, root, out, 1));
+                                 ancestors.size(), scratch.data(), scratch.size(), count, out, 1));
         return out[0] == 1;
     }
 
@@ -63,8 +81,7 @@ private:
 
     uint16_t grown(const uint16_t *out) {
         count = out[0];
-        root = out[1];
-        return out[3];
+        return out[2];
     }
 
     static uint64_t words(const void *data, size_t bytes) {

@@ -149,6 +149,56 @@ static void measure(const Shape &shape, uint32_t n, uint32_t roots) {
     std::fflush(stdout);
 }
 
+// A link of half of the nodes under the last node of the other half, and the same joinings as leaves: by the engine, and by the baseline, which knows no
+// link. The rows renumbered are the same.
+struct Joining {
+    uint16_t parent, label;
+};
+
+// The rows of a tree that joins, level by level, by rising number; node n + i of the parents is i. Parents are those of the grown tree.
+static std::vector<Joining> joinings(const Parents &parents, uint32_t n, uint16_t under) {
+    std::vector<uint32_t> depth(n, 0), order(n), place(n);
+    for (uint32_t i = 1; i < n; i++) depth[i] = depth[parents[i]] + 1;
+    std::iota(order.begin(), order.end(), 0);
+    std::stable_sort(order.begin(), order.end(), [&](uint32_t a, uint32_t b) { return depth[a] < depth[b]; });
+    for (uint32_t i = 0; i < n; i++) place[order[i]] = i;
+    std::vector<Joining> list;
+    for (uint32_t w : order) list.push_back({w == 0 ? under : uint16_t(n + place[parents[w]]), label_of(w)});
+    return list;
+}
+
+template <class Tree> uint64_t join_leaves(double &least, uint32_t n, const std::vector<Growth> &half, const std::vector<Joining> &list) {
+    Tree tree(2 * n);
+    grow(tree, half);
+    uint64_t rows = 0;
+    least = std::min(least, timed([&] {
+                                for (auto &j : list) rows += tree.add_leaf(j.parent, j.label);
+                            }) / n);
+    return rows;
+}
+
+static void measure_link(const Shape &shape, uint32_t n) {
+    Random random(n + shape.name[0]);
+    auto parents = shape.parents(n, random);
+    auto half = growths(parents, 0, random);
+    uint16_t under = uint16_t(n - 1);
+    auto list = joinings(parents, n, under);
+    double none = std::numeric_limits<double>::infinity(), link = none, leaves = none, plain = none, tuned = none;
+    uint64_t rows = 0;
+    for (int i = 0; i < 5; i++) {
+        Engine engine(2 * n);
+        grow(engine, half);
+        engine.add_first();
+        for (uint32_t w = 1; w < n; w++) engine.add_leaf(uint16_t(n + parents[w]), label_of(w));
+        link = std::min(link, timed([&] { rows = engine.link(uint16_t(n), under, 1); }) / n);
+        same(join_leaves<Engine>(leaves, n, half, list) == rows, "rows renumbered by a link and by leaves");
+        same(join_leaves<Plain>(plain, n, half, list) == rows, "rows renumbered by a link and by the baseline");
+        same(join_leaves<Tuned>(tuned, n, half, list) == rows, "rows renumbered by a link and by the tuned baseline");
+    }
+    std::printf("| %s | %u | %.0f | %.2f | %.2f | %.2f | %.1f |\n", shape.name, n, link, link / leaves, link / plain, link / tuned, double(rows) / n);
+    std::fflush(stdout);
+}
+
 static void depths(const char *file) {
     std::FILE *out = std::fopen(file, "w");
     if (out == nullptr) std::exit(1);
@@ -186,6 +236,8 @@ int main(int argc, char **argv) {
     for (auto &shape : shapes)
         for (uint32_t n : shape.sizes)
             for (uint32_t roots : {0u, 5u}) measure(shape, n, roots);
+    std::printf("\n| tree linked | nodes | a joined node, ns | to leaves | to C++ leaves | to C++ leaves, tuned | rows a node |\n|---|---|---|---|---|---|---|\n");
+    for (auto &shape : shapes) measure_link(shape, 16384);
     std::printf("\nBytes a row: engine %.0f (and 2 of scratch), C++ %.0f, parent walk %.0f, jump pointers %.0f.\n", Engine::bytes_per_row, Plain::bytes_per_row,
                 ParentWalk::bytes_per_row, JumpPointers::bytes_per_row);
     if (argc > 1) depths(argv[1]);

@@ -40,55 +40,62 @@ struct answer {
 /* ---- the table form */
 
 static struct table {
-    uint16_t fields[10 * CAPACITY];
+    uint16_t fields[12 * CAPACITY];
     uint64_t numbers[2 * CAPACITY];
     int32_t levels[CAPACITY];
     uint16_t ancestors[122 * CAPACITY];
-    uint16_t count, root;
+    uint16_t count, root; /* the root is that of the log's tree: the last node that a new root gave */
 } table;
 
 static uint16_t scratch[CAPACITY];
 
-#define PARTS table.fields, 10 * CAPACITY, table.numbers, 2 * CAPACITY, table.levels, CAPACITY, table.ancestors, 122 * CAPACITY
+#define PARTS table.fields, 12 * CAPACITY, table.numbers, 2 * CAPACITY, table.levels, CAPACITY, table.ancestors, 122 * CAPACITY
 
 static unsigned table_set_up(void) {
-    uint16_t out[2];
-    unsigned refusal = nca_table_set_up(PARTS, out, 2);
+    uint16_t out[1];
+    unsigned refusal = nca_table_set_up(PARTS, out, 1);
+    if (refusal == 0)
+        table.count = out[0];
+    return refusal;
+}
+
+/* Keeps the count. */
+static unsigned table_grown(unsigned refusal, const uint16_t out[3], struct growth *g) {
     if (refusal == 0) {
         table.count = out[0];
-        table.root = out[1];
+        g->node = out[1];
+        g->rows = out[2];
+        g->level = table.levels[out[1]];
     }
     return refusal;
 }
 
-/* Keeps count and root. */
-static void table_grown(const uint16_t out[4], struct growth *g) {
-    table.count = out[0];
-    table.root = out[1];
-    g->node = out[2];
-    g->rows = out[3];
-    g->level = table.levels[out[2]];
+static unsigned table_add_first(struct growth *g) {
+    uint16_t out[3];
+    return table_grown(nca_table_add_first(PARTS, scratch, CAPACITY, table.count, out, 3), out, g);
 }
 
 static unsigned table_add_leaf(unsigned parent, unsigned label, struct growth *g) {
-    uint16_t out[4];
-    unsigned refusal = nca_table_add_leaf(PARTS, scratch, CAPACITY, table.count, table.root, (uint16_t)parent, (uint16_t)label, out, 4);
-    if (refusal == 0)
-        table_grown(out, g);
-    return refusal;
+    uint16_t out[3];
+    return table_grown(nca_table_add_leaf(PARTS, scratch, CAPACITY, table.count, (uint16_t)parent, (uint16_t)label, out, 3), out, g);
 }
 
+static unsigned table_add_root_over(unsigned x, struct growth *g) {
+    uint16_t out[3];
+    return table_grown(nca_table_add_root(PARTS, scratch, CAPACITY, table.count, (uint16_t)x, out, 3), out, g);
+}
+
+/* The new root of a log: it names none. */
 static unsigned table_add_root(struct growth *g) {
-    uint16_t out[4];
-    unsigned refusal = nca_table_add_root(PARTS, scratch, CAPACITY, table.count, table.root, out, 4);
+    unsigned refusal = table.count == 0 ? table_add_first(g) : table_add_root_over(table.root, g);
     if (refusal == 0)
-        table_grown(out, g);
+        table.root = (uint16_t)g->node;
     return refusal;
 }
 
 static unsigned table_query(unsigned x, unsigned y, struct answer *a) {
     int32_t out[6];
-    unsigned refusal = nca_table_query(PARTS, table.count, table.root, (uint16_t)x, (uint16_t)y, out, 6);
+    unsigned refusal = nca_table_query(PARTS, table.count, (uint16_t)x, (uint16_t)y, out, 6);
     if (refusal == 0)
         for (int i = 0; i < 6; i++)
             a->values[i] = out[i];
@@ -100,7 +107,7 @@ static unsigned table_query(unsigned x, unsigned y, struct answer *a) {
 static uint8_t tree[NCA_TREE_BYTES];
 
 /* The places of the columns. */
-enum { FIELDS = 4, NUMBERS = 2564, LEVELS = 4612, ANCESTORS = 5124 };
+enum { FIELDS = 2, NUMBERS = 3074, LEVELS = 5122, ANCESTORS = 5634 };
 
 static unsigned little_endian(const uint8_t *b) { return b[0] + 256u * b[1]; }
 
@@ -212,17 +219,34 @@ static unsigned table_count(void) { return table.count; }
 static unsigned tree_count(void) { return little_endian(tree); }
 
 static void table_calls(void) {
-    uint16_t out[4] = {9, 9, 9, 9}, yes = 9;
+    uint16_t out[3] = {9, 9, 9}, yes = 9;
     struct table before = table;
-    expect(nca_table_add_root(PARTS, scratch, CAPACITY, table.count, table.root, out, 3) == NCA_MISFIT, "a short out slice is a misfit");
-    expect(nca_table_add_root(PARTS, scratch, CAPACITY - 1, table.count, table.root, out, 4) == NCA_MISFIT, "a short scratch is a misfit");
-    expect(out[0] == 9 && out[3] == 9 && memcmp(&before, &table, sizeof table) == 0, "a refusal changes nothing");
-    expect(nca_table_alike(PARTS, table.count, table.root, 1, 1, &yes, 1) == 0 && yes == 1, "a node is alike to itself");
-    expect(nca_table_alike(PARTS, table.count, table.root, 1, 2, &yes, 1) == 0 && yes == 0, "other labels are not alike");
-    expect(nca_table_inspect(PARTS, scratch, CAPACITY, table.count, table.root, &yes, 1) == 0 && yes == 1, "the table passes inspection");
+    expect(nca_table_add_root(PARTS, scratch, CAPACITY, table.count, table.root, out, 2) == NCA_MISFIT, "a short out slice is a misfit");
+    expect(nca_table_add_root(PARTS, scratch, CAPACITY - 1, table.count, table.root, out, 3) == NCA_MISFIT, "a short scratch is a misfit");
+    expect(out[0] == 9 && out[2] == 9 && memcmp(&before, &table, sizeof table) == 0, "a refusal changes nothing");
+    expect(nca_table_alike(PARTS, table.count, 1, 1, &yes, 1) == 0 && yes == 1, "a node is alike to itself");
+    expect(nca_table_alike(PARTS, table.count, 1, 2, &yes, 1) == 0 && yes == 0, "other labels are not alike");
+    expect(nca_table_inspect(PARTS, scratch, CAPACITY, table.count, &yes, 1) == 0 && yes == 1, "the table passes inspection");
     table.levels[1] += 1;
-    expect(nca_table_inspect(PARTS, scratch, CAPACITY, table.count, table.root, &yes, 1) == 0 && yes == 0, "a false level does not pass");
+    expect(nca_table_inspect(PARTS, scratch, CAPACITY, table.count, &yes, 1) == 0 && yes == 0, "a false level does not pass");
     table.levels[1] -= 1;
+}
+
+/* Two trees in one table. */
+static void several_trees(void) {
+    struct growth g = {0, 0, 0};
+    struct answer a = {{0}};
+    uint16_t yes = 9;
+    expect(table_set_up() == 0, "set-up is served");
+    expect(table_add_first(&g) == 0 && g.node == 0 && g.rows == 1, "a first node is served");
+    expect(table_add_leaf(0, 7, &g) == 0 && g.node == 1, "a leaf of the first tree is served");
+    expect(table_add_first(&g) == 0 && g.node == 2 && g.rows == 1 && g.level == 0, "a second tree is begun");
+    expect(table_query(1, 2, &a) == NCA_OTHER_TREE, "nodes of two trees share none");
+    expect(nca_table_alike(PARTS, table.count, 1, 2, &yes, 1) == NCA_OTHER_TREE && yes == 9, "nor are they compared");
+    expect(table_add_root_over(1, &g) == NCA_NOT_ROOT, "a new root goes over a root");
+    expect(table_add_root_over(2, &g) == 0 && g.node == 3 && g.level == -1, "also that of the second tree");
+    expect(table_query(2, 3, &a) == 0 && a.values[0] == 3, "which then answers");
+    expect(nca_table_inspect(PARTS, scratch, CAPACITY, table.count, &yes, 1) == 0 && yes == 1, "the table passes inspection");
 }
 
 static void tree_calls(void) {
@@ -236,9 +260,9 @@ static void tree_calls(void) {
     expect(nca_add_leaf(tree, NCA_TREE_BYTES, 0, 0, out, 4) == NCA_BAD_LABEL, "a label of 0 is refused");
     expect(nca_query(tree, NCA_TREE_BYTES, 0, NCA_NONE, out, 16) == NCA_UNKNOWN_NODE, "an unknown node is refused");
     expect(out[0] == 9 && out[15] == 9 && memcmp(before, tree, sizeof tree) == 0, "a refusal changes nothing");
-    tree[2] = 200; /* a root that is no node */
+    tree[FIELDS + 2 * 10] = 200; /* a root that is no node, in row 0 */
     expect(nca_query(tree, NCA_TREE_BYTES, 0, 1, out, 16) == NCA_CORRUPT, "a tree that these calls did not leave is refused");
-    tree[2] = before[2];
+    tree[FIELDS + 2 * 10] = before[FIELDS + 2 * 10];
 }
 
 /* Both forms grow and answer alike, to the last node, and the tree holds what the table holds. */
@@ -260,9 +284,9 @@ static void compare(void) {
         r = table_query(x, y, &a);
         q = tree_query(x, y, &b);
         expect(r == q && memcmp(&a, &b, sizeof a) == 0, "both forms answer alike");
-        expect(tree_count() == table.count && little_endian(tree + 2) == table.root, "count and root are the same");
+        expect(tree_count() == table.count, "the count is the same");
     }
-    for (unsigned i = 0; i < 10 * CAPACITY; i++)
+    for (unsigned i = 0; i < 12 * CAPACITY; i++)
         expect(little_endian(tree + FIELDS + 2 * i) == table.fields[i], "the fields are the same");
     for (unsigned i = 0; i < 8 * 2 * CAPACITY; i++)
         expect(tree[NUMBERS + i] == (table.numbers[i / 8] >> 8 * (i % 8)) % 256, "the numbers are the same");
@@ -276,6 +300,7 @@ int main(void) {
     play(&TABLE, table_count);
     table_calls();
     fill(&TABLE);
+    several_trees();
     play(&TREE, tree_count);
     tree_calls();
     fill(&TREE);

@@ -1,4 +1,4 @@
-/* Vundreli: nearest common ancestors in a tree that grows while it is asked.
+/* Vundreli: nearest common ancestors in trees that grow, and are linked, while they are asked.
  *
  * Each call answers 0, or the number of the refusal. A refusal changes no slice that was lent.
  * A slice is a pointer and a count of elements. An out slice must have exactly the count that stands at its call; else the call is a misfit.
@@ -14,7 +14,7 @@
 extern "C" {
 #endif
 
-/* No node: the root of an empty tree, and a link that leads nowhere. */
+/* No node: where a link leads nowhere. */
 #define NCA_NONE 65535
 
 enum nca_refusal {
@@ -22,54 +22,71 @@ enum nca_refusal {
     NCA_FULL = 2,         /* growth with as many nodes as there is room for */
     NCA_MISFIT = 3,       /* the slices do not fit one capacity from 1 to 32,768, or an out slice is of another length */
     NCA_CORRUPT = 4,      /* the table is none that these calls left */
-    NCA_BAD_LABEL = 5     /* a label outside 1 to 9,999 */
+    NCA_BAD_LABEL = 5,    /* a label outside 1 to 9,999 */
+    NCA_NOT_ROOT = 10,    /* a new root over, or a link of, a node that is not the root of its tree */
+    NCA_SAME_TREE = 11,   /* a link under a node of the same tree */
+    NCA_OTHER_TREE = 12   /* a question to nodes of two trees */
 };
 
-/* The table form. A table of capacity c is lent as four slices: fields (10 c), numbers (2 c), levels (c), ancestors (122 c).
- * Count and root go in by value, and the caller keeps those that a growth writes to its out slice.
- * scratch (c) is memory apart from the table; growth looks at its length only, inspection may leave anything in it. */
+/* The table form. A table of capacity c is lent as four slices: fields (12 c), numbers (2 c), levels (c), ancestors (122 c).
+ * It holds several trees, each begun by a first node. The count goes in by value, and the caller keeps the one that a growth writes to its out slice.
+ * scratch (c) is memory apart from the table; growth looks at its length only, inspection and a served link may leave anything in it. */
 
-/* An empty table. out (2): count, root. */
+/* An empty table. out (1): count. */
 uint16_t nca_table_set_up(uint16_t *fields, size_t fields_len, uint64_t *numbers, size_t numbers_len,
                           int32_t *levels, size_t levels_len, uint16_t *ancestors, size_t ancestors_len,
                           uint16_t *out, size_t out_len);
 
-/* A new leaf. out (4): count, root, the new node, rows renumbered. */
+/* The first node of a new tree, its root. out (3): count, the new node, rows renumbered. */
+uint16_t nca_table_add_first(uint16_t *fields, size_t fields_len, uint64_t *numbers, size_t numbers_len,
+                             int32_t *levels, size_t levels_len, uint16_t *ancestors, size_t ancestors_len,
+                             const uint16_t *scratch, size_t scratch_len,
+                             uint16_t count,
+                             uint16_t *out, size_t out_len);
+
+/* A new leaf. out (3): count, the new node, rows renumbered. */
 uint16_t nca_table_add_leaf(uint16_t *fields, size_t fields_len, uint64_t *numbers, size_t numbers_len,
                             int32_t *levels, size_t levels_len, uint16_t *ancestors, size_t ancestors_len,
                             const uint16_t *scratch, size_t scratch_len,
-                            uint16_t count, uint16_t root, uint16_t parent, uint16_t label,
+                            uint16_t count, uint16_t parent, uint16_t label,
                             uint16_t *out, size_t out_len);
 
-/* A new root over the present one, or the first node. out (4): count, root, the new node, rows renumbered. */
+/* A new root over x, the root of a tree. out (3): count, the new node, rows renumbered. */
 uint16_t nca_table_add_root(uint16_t *fields, size_t fields_len, uint64_t *numbers, size_t numbers_len,
                             int32_t *levels, size_t levels_len, uint16_t *ancestors, size_t ancestors_len,
                             const uint16_t *scratch, size_t scratch_len,
-                            uint16_t count, uint16_t root,
+                            uint16_t count, uint16_t x,
                             uint16_t *out, size_t out_len);
 
-/* out (6): the nearest common ancestor of x and y, the branches towards x and y, the distances of x and y from it, its label. */
+/* The whole tree of root x under v, a node of another tree; x takes the label. out (1): rows renumbered. */
+uint16_t nca_table_link(uint16_t *fields, size_t fields_len, uint64_t *numbers, size_t numbers_len,
+                        int32_t *levels, size_t levels_len, uint16_t *ancestors, size_t ancestors_len,
+                        uint16_t *scratch, size_t scratch_len,
+                        uint16_t count, uint16_t x, uint16_t v, uint16_t label,
+                        uint32_t *out, size_t out_len);
+
+/* out (6): the nearest common ancestor of x and y, nodes of one tree, the branches towards x and y, the distances of x and y from it, its label. */
 uint16_t nca_table_query(const uint16_t *fields, size_t fields_len, const uint64_t *numbers, size_t numbers_len,
                          const int32_t *levels, size_t levels_len, const uint16_t *ancestors, size_t ancestors_len,
-                         uint16_t count, uint16_t root, uint16_t x, uint16_t y,
+                         uint16_t count, uint16_t x, uint16_t y,
                          int32_t *out, size_t out_len);
 
-/* out (1): 1 where the labels from the root's child down to x and down to y are the same, else 0. */
+/* out (1): 1 where the labels from the root's child down to x and down to y, nodes of one tree, are the same, else 0. */
 uint16_t nca_table_alike(const uint16_t *fields, size_t fields_len, const uint64_t *numbers, size_t numbers_len,
                          const int32_t *levels, size_t levels_len, const uint16_t *ancestors, size_t ancestors_len,
-                         uint16_t count, uint16_t root, uint16_t x, uint16_t y,
+                         uint16_t count, uint16_t x, uint16_t y,
                          uint16_t *out, size_t out_len);
 
 /* out (1): 1 where the table follows all rules, else 0. */
 uint16_t nca_table_inspect(const uint16_t *fields, size_t fields_len, const uint64_t *numbers, size_t numbers_len,
                            const int32_t *levels, size_t levels_len, const uint16_t *ancestors, size_t ancestors_len,
                            uint16_t *scratch, size_t scratch_len,
-                           uint16_t count, uint16_t root,
+                           uint16_t count,
                            uint16_t *out, size_t out_len);
 
-/* Byte trees. A tree of capacity 128 is one run of NCA_TREE_BYTES bytes, with its count and root in it; 16-bit numbers low byte first.
- * The outcomes are those of the table form. A tree or an out slice of another length is a misfit. */
-#define NCA_TREE_BYTES 36356
+/* Byte trees. A tree of capacity 128 is one run of NCA_TREE_BYTES bytes, with its count in it; 16-bit numbers low byte first.
+ * It keeps to one tree. The outcomes are those of the table form. A tree or an out slice of another length is a misfit. */
+#define NCA_TREE_BYTES 36866
 
 /* An empty tree. */
 uint16_t nca_set_up(uint8_t *tree, size_t tree_len);

@@ -1,31 +1,33 @@
-/* Grows a small tree with the engine and prints its table, one row to a line, for draw.py. */
+/* Grows a small tree with the engine and prints its count and root, then its table, one row to a line, for draw.py. */
 #include "../../include/vundreli.h"
 #include <stdio.h>
 
 enum { CAPACITY = 16 };
 
-static uint16_t fields[10 * CAPACITY], ancestors[122 * CAPACITY], scratch[CAPACITY];
+static uint16_t fields[11 * CAPACITY], ancestors[122 * CAPACITY], scratch[CAPACITY];
 static uint64_t numbers[2 * CAPACITY];
 static int32_t levels[CAPACITY];
 
+#define PARTS fields, 11 * CAPACITY, numbers, 2 * CAPACITY, levels, CAPACITY, ancestors, 122 * CAPACITY
+
 /* Parents in order of arrival; ROOT stands for a new root. */
 #define ROOT 65535
-static const uint16_t parents[] = {ROOT, 0, 1, 2, 3, 1, 2, 6, 0, ROOT, 9, 3, 4};
+static const uint16_t parents[] = {0, 1, 2, 3, 1, 2, 6, 0, ROOT, 9, 3, 4};
 
 int main(void) {
-    uint16_t out[4];
-    if (nca_table_set_up(fields, 10 * CAPACITY, numbers, 2 * CAPACITY, levels, CAPACITY, ancestors, 122 * CAPACITY, out, 2) != 0) return 1;
+    uint16_t out[3], root;
+    if (nca_table_set_up(PARTS, out, 1) != 0) return 1;
+    if (nca_table_add_first(PARTS, scratch, CAPACITY, out[0], out, 3) != 0) return 1;
+    root = out[1];
     for (unsigned i = 0; i < sizeof parents / sizeof parents[0]; i++) {
-        uint16_t refusal = parents[i] == ROOT
-                               ? nca_table_add_root(fields, 10 * CAPACITY, numbers, 2 * CAPACITY, levels, CAPACITY, ancestors, 122 * CAPACITY,
-                                                    scratch, CAPACITY, out[0], out[1], out, 4)
-                               : nca_table_add_leaf(fields, 10 * CAPACITY, numbers, 2 * CAPACITY, levels, CAPACITY, ancestors, 122 * CAPACITY,
-                                                    scratch, CAPACITY, out[0], out[1], parents[i], (uint16_t)(i + 1), out, 4);
+        uint16_t refusal = parents[i] == ROOT ? nca_table_add_root(PARTS, scratch, CAPACITY, out[0], root, out, 3)
+                                              : nca_table_add_leaf(PARTS, scratch, CAPACITY, out[0], parents[i], (uint16_t)(i + 2), out, 3);
         if (refusal != 0) return 1;
+        if (parents[i] == ROOT) root = out[1];
     }
-    printf("%u %u\n", (unsigned)out[0], (unsigned)out[1]);
+    printf("%u %u\n", (unsigned)out[0], (unsigned)root);
     for (unsigned x = 0; x < out[0]; x++) {
-        for (unsigned k = 0; k < 10; k++) printf("%u ", (unsigned)fields[10 * x + k]);
+        for (unsigned k = 0; k < 10; k++) printf("%u ", (unsigned)fields[11 * x + k]);
         printf("%llu %llu %d\n", (unsigned long long)numbers[2 * x], (unsigned long long)numbers[2 * x + 1], (int)levels[x]);
     }
     return 0;

@@ -11,7 +11,7 @@ pub fn capacities() -> String {
         equal(table.set_up(), expected, || format!("set-up at capacity {capacity}"));
         let mut scratch = Lent::new(capacity, 0);
         equal(table.inspect(&mut scratch), expected.map(|_| 1), || format!("inspection at capacity {capacity}"));
-        equal(table.add_root(&scratch).map(|_| ()), expected, || format!("new root at capacity {capacity}"));
+        equal(table.add_first(&scratch).map(|_| ()), expected, || format!("first node at capacity {capacity}"));
         let asked = table.query(0, 0).map(|_| ());
         equal(asked, expected, || format!("question at capacity {capacity}"));
         equal(table.alike(0, 0).map(|_| ()), expected, || format!("alike at capacity {capacity}"));
@@ -24,7 +24,7 @@ pub fn misfits() -> String {
     let good = {
         let mut table = Table::new(8, true);
         equal(table.set_up(), Ok(()), || "set-up".into());
-        equal(table.add_root(&Lent::new(8, 0)).map(|g| g.node), Ok(0), || "new root".into());
+        equal(table.add_first(&Lent::new(8, 0)).map(|g| g.node), Ok(0), || "first node".into());
         table
     };
     for part in 0..4 {
@@ -40,7 +40,10 @@ pub fn misfits() -> String {
             let mut scratch = Lent::new(8, 0);
             let what = || format!("part {part} by {change}");
             equal(table.add_leaf(&scratch, 9, 0).map(|_| ()), Err(3), what);
-            equal(table.add_root(&scratch).map(|_| ()), Err(3), what);
+            equal(table.add_first(&scratch).map(|_| ()), Err(3), what);
+            equal(table.add_root(&scratch, 9).map(|_| ()), Err(3), what);
+            #[cfg(link)]
+            equal(table.link(&mut scratch, 9, 9, 0), Err(3), what);
             equal(table.query(9, 9).map(|_| ()), Err(3), what);
             equal(table.alike(9, 9).map(|_| ()), Err(3), what);
             equal(table.inspect(&mut scratch).map(|_| ()), Err(3), what);
@@ -55,7 +58,8 @@ pub fn limits() -> String {
     let (mut table, scratch) = (Table::new(128, true), Lent::new(128, 0));
     equal(table.set_up(), Ok(()), || "set-up".into());
     equal(table.add_leaf(&scratch, 0, 1).map(|g| g.node), Err(1), || "leaf of an empty tree".into());
-    equal(table.add_root(&scratch).map(|g| g.node), Ok(0), || "new root".into());
+    equal(table.add_root(&scratch, 0).map(|g| g.node), Err(1), || "new root of an empty tree".into());
+    equal(table.add_first(&scratch).map(|g| g.node), Ok(0), || "first node".into());
     equal(table.add_leaf(&scratch, 0, 9999).map(|g| g.node), Ok(1), || "label 9,999".into());
     equal(table.add_leaf(&scratch, 0, 10000).map(|g| g.node), Err(5), || "label 10,000".into());
     equal(table.add_leaf(&scratch, 0, 0).map(|g| g.node), Err(5), || "label 0".into());
@@ -63,7 +67,9 @@ pub fn limits() -> String {
         equal(table.add_leaf(&scratch, node / 2, 1).map(|g| g.node), Ok(node), || format!("node {node}"));
     }
     equal(table.add_leaf(&scratch, 0, 1).map(|g| g.node), Err(2), || "129th node".into());
-    equal(table.add_root(&scratch).map(|g| g.node), Err(2), || "129th node as root".into());
+    equal(table.add_root(&scratch, 0).map(|g| g.node), Err(2), || "129th node as root".into());
+    equal(table.add_first(&scratch).map(|g| g.node), Err(2), || "129th node as a first node".into());
+    equal(table.add_root(&scratch, 1).map(|g| g.node), Err(10), || "a new root over a leaf, before full".into());
     check(table.count == 128, || "count".into());
     equal(table.query(5, 5), Ok([5, 5, 5, 0, 0, 1]), || "a node with itself".into());
     "1 table".into()

@@ -5,9 +5,16 @@ use crate::random::Random;
 use crate::tally::check;
 
 pub const NONE: u16 = 65535;
-pub const FIELDS: usize = 10;
+pub const FIELDS: usize = 12;
 pub const NUMBERS: usize = 2;
 pub const ENTRIES: usize = 122;
+
+/// The place of a tree's root in its first row's fields, and the ancestor entry that is that row.
+pub const ROOT: usize = 10;
+pub const TREE: usize = 121;
+
+/// The fields of a row that set-up leaves.
+pub const BLANK: [u16; FIELDS] = [NONE, NONE, NONE, NONE, NONE, NONE, 0, 0, 0, 0, NONE, 0];
 
 mod raw {
     #[link(name = "desk", kind = "static")]
@@ -24,6 +31,21 @@ mod raw {
             out: *mut u16,
             out_len: usize,
         ) -> u16;
+        pub fn nca_table_add_first(
+            fields: *mut u16,
+            fields_len: usize,
+            numbers: *mut u64,
+            numbers_len: usize,
+            levels: *mut i32,
+            levels_len: usize,
+            ancestors: *mut u16,
+            ancestors_len: usize,
+            scratch: *const u16,
+            scratch_len: usize,
+            count: u16,
+            out: *mut u16,
+            out_len: usize,
+        ) -> u16;
         pub fn nca_table_add_leaf(
             fields: *mut u16,
             fields_len: usize,
@@ -36,7 +58,6 @@ mod raw {
             scratch: *const u16,
             scratch_len: usize,
             count: u16,
-            root: u16,
             parent: u16,
             label: u16,
             out: *mut u16,
@@ -54,8 +75,27 @@ mod raw {
             scratch: *const u16,
             scratch_len: usize,
             count: u16,
-            root: u16,
+            x: u16,
             out: *mut u16,
+            out_len: usize,
+        ) -> u16;
+        #[cfg(link)]
+        pub fn nca_table_link(
+            fields: *mut u16,
+            fields_len: usize,
+            numbers: *mut u64,
+            numbers_len: usize,
+            levels: *mut i32,
+            levels_len: usize,
+            ancestors: *mut u16,
+            ancestors_len: usize,
+            scratch: *mut u16,
+            scratch_len: usize,
+            count: u16,
+            x: u16,
+            v: u16,
+            label: u16,
+            out: *mut u32,
             out_len: usize,
         ) -> u16;
         pub fn nca_table_query(
@@ -68,7 +108,6 @@ mod raw {
             ancestors: *const u16,
             ancestors_len: usize,
             count: u16,
-            root: u16,
             x: u16,
             y: u16,
             out: *mut i32,
@@ -84,7 +123,6 @@ mod raw {
             ancestors: *const u16,
             ancestors_len: usize,
             count: u16,
-            root: u16,
             x: u16,
             y: u16,
             out: *mut u16,
@@ -102,14 +140,13 @@ mod raw {
             scratch: *mut u16,
             scratch_len: usize,
             count: u16,
-            root: u16,
             out: *mut u16,
             out_len: usize,
         ) -> u16;
     }
 }
 
-/// A table's lent parts, its count and its root.
+/// A table's lent parts, and its count.
 #[derive(Clone)]
 pub struct Table {
     pub fields: Lent<u16>,
@@ -117,7 +154,6 @@ pub struct Table {
     pub levels: Lent<i32>,
     pub ancestors: Lent<u16>,
     pub count: u16,
-    pub root: u16,
     /// Whether every call compares all parts with a copy made before it: for small tables.
     pub watched: bool,
 }
@@ -158,7 +194,6 @@ impl Table {
             levels: Lent::new(capacity, 0),
             ancestors: Lent::new(ENTRIES * capacity, 0),
             count: 0,
-            root: NONE,
             watched,
         }
     }
@@ -176,9 +211,9 @@ impl Table {
     }
 
     fn is_empty(&self) -> bool {
-        let fields = self.fields.part().chunks(FIELDS).all(|row| row == [NONE, NONE, NONE, NONE, NONE, NONE, 0, 0, 0, 0]);
+        let fields = self.fields.part().chunks(FIELDS).all(|row| row == BLANK);
         let numbers = self.numbers.part().iter().all(|c| *c == 0) && self.levels.part().iter().all(|c| *c == 0);
-        fields && numbers && self.ancestors.part().iter().all(|c| *c == NONE) && self.count == 0 && self.root == NONE
+        fields && numbers && self.ancestors.part().iter().all(|c| *c == NONE) && self.count == 0
     }
 
     pub fn same_parts(&self, other: &Table) -> bool {
@@ -199,7 +234,7 @@ impl Table {
     /// What holds after every call: guards as they were, parts too where the call stores nothing.
     fn after<T: Word>(&self, call: &str, code: u16, before: Option<Table>, stores: bool, out: &Lent<T>) {
         check(self.is_guarded() && out.is_guarded(), || format!("{call} touched a guard"));
-        check(code <= 5, || format!("{call} gave {code}"));
+        check(code <= 5 || (10..=12).contains(&code), || format!("{call} gave {code}"));
         if code != 0 {
             check(out.part().iter().all(|c| *c == T::MARK), || format!("{call} refused by {code} and stored an answer"));
         }
@@ -209,36 +244,54 @@ impl Table {
     }
 
     pub fn set_up(&mut self) -> Reply<()> {
-        let (before, mut out) = (self.copy(), Lent::<u16>::marked(2));
+        let (before, mut out) = (self.copy(), Lent::<u16>::marked(1));
         let o = out.part_mut();
         let code = lend_mut!(nca_table_set_up, self, o.as_mut_ptr(), o.len());
         self.after("set-up", code, before, true, &out);
-        self.served(code, &out).map(|_| ())
+        self.served(code, &out)
     }
 
-    /// Takes over count and root of a served growth or set-up.
+    /// Takes over the count of a served growth or set-up.
     fn served(&mut self, code: u16, out: &Lent<u16>) -> Reply<()> {
         if code != 0 {
             return Err(code);
         }
-        (self.count, self.root) = (out.part()[0], out.part()[1]);
+        self.count = out.part()[0];
         Ok(())
     }
 
-    pub fn add_leaf(&mut self, scratch: &Lent<u16>, parent: u16, label: u16) -> Reply<Grown> {
-        let (before, kept, mut out) = (self.copy(), self.watched.then(|| scratch.clone()), Lent::<u16>::marked(4));
+    pub fn add_first(&mut self, scratch: &Lent<u16>) -> Reply<Grown> {
+        let (before, kept, mut out) = (self.copy(), self.watched.then(|| scratch.clone()), Lent::<u16>::marked(3));
         let s = scratch.part();
         let o = out.part_mut();
-        let code = lend_mut!(nca_table_add_leaf, self, s.as_ptr(), s.len(), self.count, self.root, parent, label, o.as_mut_ptr(), o.len());
+        let code = lend_mut!(nca_table_add_first, self, s.as_ptr(), s.len(), self.count, o.as_mut_ptr(), o.len());
+        self.grown("first node", code, before, scratch, kept, &out)
+    }
+
+    pub fn add_leaf(&mut self, scratch: &Lent<u16>, parent: u16, label: u16) -> Reply<Grown> {
+        let (before, kept, mut out) = (self.copy(), self.watched.then(|| scratch.clone()), Lent::<u16>::marked(3));
+        let s = scratch.part();
+        let o = out.part_mut();
+        let code = lend_mut!(nca_table_add_leaf, self, s.as_ptr(), s.len(), self.count, parent, label, o.as_mut_ptr(), o.len());
         self.grown("leaf", code, before, scratch, kept, &out)
     }
 
-    pub fn add_root(&mut self, scratch: &Lent<u16>) -> Reply<Grown> {
-        let (before, kept, mut out) = (self.copy(), self.watched.then(|| scratch.clone()), Lent::<u16>::marked(4));
+    /// A new root over x.
+    pub fn add_root(&mut self, scratch: &Lent<u16>, x: u16) -> Reply<Grown> {
+        let (before, kept, mut out) = (self.copy(), self.watched.then(|| scratch.clone()), Lent::<u16>::marked(3));
         let s = scratch.part();
         let o = out.part_mut();
-        let code = lend_mut!(nca_table_add_root, self, s.as_ptr(), s.len(), self.count, self.root, o.as_mut_ptr(), o.len());
+        let code = lend_mut!(nca_table_add_root, self, s.as_ptr(), s.len(), self.count, x, o.as_mut_ptr(), o.len());
         self.grown("new root", code, before, scratch, kept, &out)
+    }
+
+    /// The root of x's tree, as its rows record it; none where that leads past the count.
+    pub fn root_of(&self, x: u16) -> u16 {
+        let first = self.ancestors.part()[ENTRIES * x as usize + TREE];
+        if first >= self.count {
+            return NONE;
+        }
+        self.fields.part()[FIELDS * first as usize + ROOT]
     }
 
     fn grown(
@@ -255,14 +308,30 @@ impl Table {
         if let Some(kept) = kept {
             check(code == 0 || kept.part() == scratch.part(), || format!("{call} gave {code} and changed the scratch"));
         }
-        self.served(code, out).map(|_| Grown { node: out.part()[2], rows: out.part()[3] })
+        self.served(code, out).map(|_| Grown { node: out.part()[1], rows: out.part()[2] })
+    }
+
+    /// The tree of root x under v, x with this label: the rows renumbered.
+    #[cfg(link)]
+    pub fn link(&mut self, scratch: &mut Lent<u16>, x: u16, v: u16, label: u16) -> Reply<u32> {
+        let (before, kept, mut out) = (self.copy(), scratch.clone(), Lent::<u32>::marked(1));
+        let (s, o) = (scratch.part_mut(), out.part_mut());
+        let code = lend_mut!(nca_table_link, self, s.as_mut_ptr(), s.len(), self.count, x, v, label, o.as_mut_ptr(), o.len());
+        self.after("link", code, before, true, &out);
+        check(scratch.is_guarded(), || "link touched a guard of the scratch".into());
+        check(code == 0 || kept.part() == scratch.part(), || format!("link gave {code} and changed the scratch"));
+        if code == 0 {
+            Ok(out.part()[0])
+        } else {
+            Err(code)
+        }
     }
 
     /// Nearest common ancestor, branches, distances and label.
     pub fn query(&self, x: u16, y: u16) -> Reply<[i32; 6]> {
         let (before, mut out) = (self.copy(), Lent::<i32>::marked(6));
         let o = out.part_mut();
-        let code = lend!(nca_table_query, self, self.count, self.root, x, y, o.as_mut_ptr(), o.len());
+        let code = lend!(nca_table_query, self, self.count, x, y, o.as_mut_ptr(), o.len());
         self.after("question", code, before, false, &out);
         if code == 0 {
             Ok(out.part().try_into().unwrap())
@@ -274,7 +343,7 @@ impl Table {
     pub fn alike(&self, x: u16, y: u16) -> Reply<u16> {
         let (before, mut out) = (self.copy(), Lent::<u16>::marked(1));
         let o = out.part_mut();
-        let code = lend!(nca_table_alike, self, self.count, self.root, x, y, o.as_mut_ptr(), o.len());
+        let code = lend!(nca_table_alike, self, self.count, x, y, o.as_mut_ptr(), o.len());
         self.after("alike", code, before, false, &out);
         if code == 0 {
             Ok(out.part()[0])
@@ -286,7 +355,7 @@ impl Table {
     pub fn inspect(&self, scratch: &mut Lent<u16>) -> Reply<u16> {
         let (before, kept, mut out) = (self.copy(), scratch.clone(), Lent::<u16>::marked(1));
         let (s, o) = (scratch.part_mut(), out.part_mut());
-        let code = lend!(nca_table_inspect, self, s.as_mut_ptr(), s.len(), self.count, self.root, o.as_mut_ptr(), o.len());
+        let code = lend!(nca_table_inspect, self, s.as_mut_ptr(), s.len(), self.count, o.as_mut_ptr(), o.len());
         self.after("inspection", code, before, false, &out);
         check(scratch.is_guarded(), || "inspection touched a guard of the scratch".into());
         check(code == 0 || kept.part() == scratch.part(), || format!("inspection gave {code} and changed the scratch"));

@@ -14,6 +14,10 @@ impl Word for u16 {
     const MARK: u16 = 0xA5C3;
 }
 
+impl Word for u32 {
+    const MARK: u32 = 0xA5C3_5A3C;
+}
+
 impl Word for i32 {
     const MARK: i32 = 0x5A3C_A5C3;
 }

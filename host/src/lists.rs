@@ -1,10 +1,12 @@
-//! Random lists of calls, from set-up over anything: every outcome held against the plain list, and for smaller trees against the stored tree.
+//! Random lists of calls, from set-up over anything: every outcome held against the plain list, and for smaller tables against the stored trees.
 
-use crate::engine::Table;
+use crate::engine::{Grown, Reply, Table};
 use crate::lent::Lent;
 use crate::plain::Plain;
 use crate::random::Random;
 use crate::rules;
+#[cfg(link)]
+use crate::stored::Linked;
 use crate::stored::Stored;
 use crate::tally::{check, equal};
 
@@ -35,6 +37,24 @@ impl Shape {
     }
 }
 
+/// How often a growth is of a kind: one in so many.
+#[derive(Clone, Copy)]
+pub struct Mix {
+    pub firsts: usize,
+    pub roots: usize,
+    pub links: usize,
+}
+
+/// One tree as in document 01; several, seldom and often linked; many small ones.
+pub const MIXES: [Mix; 4] = [
+    Mix { firsts: NEVER, roots: 5, links: NEVER },
+    Mix { firsts: 10, roots: 20, links: 40 },
+    Mix { firsts: 4, roots: NEVER, links: 3 },
+    Mix { firsts: 2, roots: 4, links: 8 },
+];
+
+const NEVER: usize = usize::MAX;
+
 /// One list under way: the engine's table and the models beside it.
 pub struct List {
     pub table: Table,
@@ -43,13 +63,14 @@ pub struct List {
     scratch: Lent<u16>,
     capacity: usize,
     shape: Shape,
-    /// One growth in so many is a new root.
-    roots: usize,
+    mix: Mix,
     total: u64,
+    /// A node that is added counts once, and once more in each link that moves it.
+    joinings: u64,
 }
 
 impl List {
-    pub fn new(capacity: usize, shape: Shape, roots: usize, random: &mut Random) -> List {
+    pub fn new(capacity: usize, shape: Shape, mix: Mix, random: &mut Random) -> List {
         let small = capacity <= 128;
         List {
             table: Table::set_up_over(capacity, small, random),
@@ -58,8 +79,9 @@ impl List {
             scratch: Lent::new(capacity, random.word() as u16),
             capacity,
             shape,
-            roots,
+            mix,
             total: 0,
+            joinings: 0,
         }
     }
 
@@ -90,29 +112,95 @@ impl List {
         }
     }
 
-    pub fn grow(&mut self, random: &mut Random) {
-        let (scratch, count) = (self.lend(random), self.plain.count());
-        let fits = scratch.part().len();
-        let (found, expected, parent, label) = if count == 0 && !random.one_in(8) || random.one_in(self.roots) {
-            (self.table.add_root(&scratch), self.plain.add_root(fits), None, 0)
+    /// Mostly a root, of any tree.
+    fn root(&self, random: &mut Random) -> u16 {
+        let x = self.node(random);
+        if (x as usize) < self.plain.count() && !random.one_in(12) {
+            self.plain.root_of(x)
         } else {
-            let parent = if count == 0 || random.one_in(24) { self.node(random) } else { self.shape.parent(count, random) as u16 };
-            let label = List::label(random);
-            (self.table.add_leaf(&scratch, parent, label), self.plain.add_leaf(fits, parent, label), Some(parent), label)
-        };
-        equal(found.map(|g| g.node), expected, || format!("growth to {count} nodes at capacity {}, {:?}", self.capacity, self.shape));
-        equal((self.table.count as usize, self.table.root), (self.plain.count(), self.plain.root()), || "count and root".into());
+            x
+        }
+    }
+
+    pub fn grow(&mut self, random: &mut Random) {
+        let count = self.plain.count();
+        if count == 0 && !random.one_in(8) || random.one_in(self.mix.firsts) {
+            self.add_first(random)
+        } else if random.one_in(self.mix.roots) {
+            self.add_root(random)
+        } else if random.one_in(self.mix.links) {
+            self.link(random)
+        } else {
+            self.add_leaf(random)
+        }
+    }
+
+    fn add_first(&mut self, random: &mut Random) {
+        let scratch = self.lend(random);
+        let (found, expected) = (self.table.add_first(&scratch), self.plain.add_first(scratch.part().len()));
+        self.grown("first node", found, expected, random, |stored| stored.add_first());
+    }
+
+    fn add_leaf(&mut self, random: &mut Random) {
+        let (scratch, count) = (self.lend(random), self.plain.count());
+        let parent = if count == 0 || random.one_in(24) { self.node(random) } else { self.shape.parent(count, random) as u16 };
+        let label = List::label(random);
+        let (found, expected) = (self.table.add_leaf(&scratch, parent, label), self.plain.add_leaf(scratch.part().len(), parent, label));
+        self.grown("leaf", found, expected, random, |stored| stored.add_leaf(parent, label));
+    }
+
+    fn add_root(&mut self, random: &mut Random) {
+        let (scratch, x) = (self.lend(random), self.root(random));
+        let (found, expected) = (self.table.add_root(&scratch, x), self.plain.add_root(scratch.part().len(), x));
+        self.grown("new root", found, expected, random, |stored| stored.add_root(x));
+    }
+
+    /// What a growth gave, against both models.
+    fn grown(
+        &mut self,
+        call: &str,
+        found: Reply<Grown>,
+        expected: Reply<u16>,
+        random: &mut Random,
+        model: impl FnOnce(&mut Stored) -> Grown,
+    ) {
+        equal(found.map(|g| g.node), expected, || self.describe(call));
+        equal(self.table.count as usize, self.plain.count(), || "the count".into());
         let Ok(grown) = found else { return };
-        self.total += u64::from(grown.rows);
-        check(self.total <= 120 * self.plain.count() as u64, || format!("{} rows renumbered for {count} nodes", self.total));
         if let Some(stored) = &mut self.stored {
-            let model = match parent {
-                None => stored.add_root(),
-                Some(parent) => stored.add_leaf(parent, label),
-            };
-            equal(grown, model, || format!("growth of the stored tree to {count} nodes, {:?}", self.shape));
+            let expected = model(stored);
+            equal(grown, expected, || self.describe(call));
+        }
+        self.renumbered(u64::from(grown.rows), 1, random);
+    }
+
+    #[cfg(not(link))]
+    fn link(&mut self, _: &mut Random) {}
+
+    #[cfg(link)]
+    fn link(&mut self, random: &mut Random) {
+        let mut scratch = self.lend(random);
+        let (x, v, label) = (self.root(random), self.node(random), List::label(random));
+        let fits = scratch.part().len();
+        let found = self.table.link(&mut scratch, x, v, label);
+        let expected = self.plain.link(fits, x, v, label);
+        equal(found.map(|_| ()), expected.map(|_| ()), || self.describe(&format!("link {x} {v}")));
+        let (Ok(rows), Ok(joined)) = (found, expected) else { return };
+        if let Some(stored) = &mut self.stored {
+            let expected = stored.link(x, v, label);
+            equal(Linked { rows: u64::from(rows), joined }, expected, || self.describe(&format!("link {x} {v}")));
+        }
+        self.renumbered(u64::from(rows), joined as u64, random);
+    }
+
+    /// After each call that joined nodes: the total, the stored trees and an inspection.
+    fn renumbered(&mut self, rows: u64, joined: u64, random: &mut Random) {
+        self.total += rows;
+        self.joinings += joined;
+        check(self.total <= 120 * self.joinings, || format!("{} rows renumbered for {} joinings", self.total, self.joinings));
+        if let Some(stored) = &self.stored {
             if self.capacity <= 40 || random.one_in(40) {
-                check(stored.is_held_by(&self.table), || format!("the stored tree of {} nodes, {:?}", count + 1, self.shape));
+                check(stored.is_held_by(&self.table), || self.describe("the stored trees"));
             }
         }
         if self.capacity <= 128 || self.plain.count().is_power_of_two() {
@@ -120,25 +208,38 @@ impl List {
         }
     }
 
+    fn describe(&self, what: &str) -> String {
+        format!("{what}, {} nodes at capacity {}, {:?}", self.plain.count(), self.capacity, self.shape)
+    }
+
+    /// Mostly another node of x's tree.
+    fn other(&self, x: u16, random: &mut Random) -> u16 {
+        let mut y = self.node(random);
+        let count = self.plain.count();
+        for _ in 0..3 {
+            if (x as usize) < count && (y as usize) < count && self.plain.root_of(x) != self.plain.root_of(y) && !random.one_in(8) {
+                y = self.node(random);
+            }
+        }
+        y
+    }
+
     pub fn ask(&mut self, random: &mut Random) {
         let x = self.node(random);
-        let y = if random.one_in(8) { x } else { self.node(random) };
-        equal(self.table.query(x, y), self.plain.query(x, y), || {
-            format!("question {x} {y} of {} nodes, {:?}", self.plain.count(), self.shape)
-        });
+        let y = if random.one_in(8) { x } else { self.other(x, random) };
+        equal(self.table.query(x, y), self.plain.query(x, y), || self.describe(&format!("question {x} {y}")));
     }
 
     pub fn compare(&mut self, random: &mut Random) {
-        let (x, y) = (self.node(random), self.node(random));
-        equal(self.table.alike(x, y), self.plain.alike(x, y), || {
-            format!("alike {x} {y} of {} nodes, {:?}", self.plain.count(), self.shape)
-        });
+        let x = self.node(random);
+        let y = self.other(x, random);
+        equal(self.table.alike(x, y), self.plain.alike(x, y), || self.describe(&format!("alike {x} {y}")));
     }
 
     pub fn inspect(&mut self, random: &mut Random) {
         let mut scratch = self.lend(random);
         let expected = if scratch.part().len() == self.capacity { Ok(1) } else { Err(3) };
-        equal(self.table.inspect(&mut scratch), expected, || format!("inspection of {} nodes, {:?}", self.plain.count(), self.shape));
+        equal(self.table.inspect(&mut scratch), expected, || self.describe("inspection"));
     }
 
     /// One call of any kind.
@@ -155,9 +256,9 @@ impl List {
 /// Small trees: every pair is asked, and the naive rules look at every table.
 pub fn small() -> String {
     let mut random = Random::new(1);
-    for round in 0..360 {
+    for round in 0..480 {
         let capacity = 1 + round % 20;
-        let mut list = List::new(capacity, SHAPES[round % 6], [2, 5, 1000][round / 6 % 3], &mut random);
+        let mut list = List::new(capacity, SHAPES[round % 6], MIXES[round / 6 % 4], &mut random);
         for _ in 0..3 * capacity + 4 {
             list.call(&mut random);
             check(rules::passes(&list.table), || "the naive rules refuse a table".into());
@@ -169,15 +270,15 @@ pub fn small() -> String {
             }
         }
     }
-    "360 lists".into()
+    "480 lists".into()
 }
 
-/// Lists at capacities between, the stored tree beside them.
+/// Lists at capacities between, the stored trees beside them.
 pub fn middle() -> String {
     let mut random = Random::new(2);
     for (round, capacity) in [40, 64, 100, 127, 128, 129, 200, 256, 500, 1000, 1024].into_iter().enumerate() {
         for shape in SHAPES {
-            let mut list = List::new(capacity, shape, [4, 20, 100_000][round % 3], &mut random);
+            let mut list = List::new(capacity, shape, MIXES[(round + shape as usize) % 4], &mut random);
             for _ in 0..capacity * 5 / 2 {
                 if capacity <= 128 || random.one_in(2) {
                     list.call(&mut random)
@@ -190,12 +291,17 @@ pub fn middle() -> String {
     "66 lists".into()
 }
 
-/// Large capacities to the last row, new roots among the leaves.
+/// Large capacities to the last row, new roots, first nodes and links among the leaves, and links once it is full.
 pub fn large() -> String {
+    const LARGE: [Mix; 3] = [
+        Mix { firsts: 300, roots: 20, links: 200 },
+        Mix { firsts: 1000, roots: 50, links: 600 },
+        Mix { firsts: 40, roots: 100_000, links: 100 },
+    ];
     let (mut random, mut most) = (Random::new(3), 0f64);
     for (round, shape) in SHAPES.into_iter().enumerate() {
         let capacity = [32768, 5000, 32768, 20000, 32768, 32768][round];
-        let mut list = List::new(capacity, shape, [20, 50, 100_000][round % 3], &mut random);
+        let mut list = List::new(capacity, shape, LARGE[round % 3], &mut random);
         while list.plain.count() < capacity {
             list.grow(&mut random);
             if random.one_in(8) {
@@ -206,9 +312,10 @@ pub fn large() -> String {
             }
         }
         (0..40).for_each(|_| list.grow(&mut random));
+        (0..100).for_each(|_| list.link(&mut random));
         list.inspect(&mut random);
         (0..2000).for_each(|_| list.ask(&mut random));
-        most = most.max(list.total as f64 / capacity as f64);
+        most = most.max(list.total as f64 / list.joinings as f64);
     }
-    format!("6 lists, at most {most:.1} rows renumbered for each node")
+    format!("6 lists, at most {most:.1} rows renumbered for each joining")
 }

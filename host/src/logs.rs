@@ -33,7 +33,7 @@ impl Printer {
             Err(code) => self.line(ordinal, 'R', &[i32::from(code)]),
             Ok(node) => {
                 let grown = match parent {
-                    None => self.stored.add_root(),
+                    None => self.stored.add_root_first_tree(),
                     Some(parent) => self.stored.add_leaf(parent, label),
                 };
                 self.total += u64::from(grown.rows);
@@ -51,7 +51,7 @@ impl Printer {
                 self.grown(ordinal, 'L', reply, Some(number(0)), number(2));
             }
             (2, 0) => {
-                let reply = self.plain.add_root(CAPACITY);
+                let reply = self.plain.add_root_first_tree(CAPACITY);
                 self.grown(ordinal, 'T', reply, None, 0);
             }
             (3, 4) => match self.plain.query(number(0), number(2)) {

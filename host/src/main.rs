@@ -1,10 +1,11 @@
 //! Tests of the engine from a host, over the static library: random lists of calls against naive models, damaged tables, trees and
-//! logs, and document 01's cases.
+//! logs, written lists, and the cases of documents 01 and 02.
 //! Prints a line for each group and, last, how many passed; the exit status says whether all did.
 
 mod cases;
 mod damage;
 mod engine;
+mod hand;
 mod lent;
 mod lists;
 mod logs;
@@ -16,14 +17,17 @@ mod stored;
 mod tally;
 mod trees;
 mod variants;
+mod vectors;
 
 use std::process::ExitCode;
 
 /// A group of tests, and what it says of itself beside its counts.
-const GROUPS: [(&str, fn() -> String); 12] = [
+const GROUPS: [(&str, fn() -> String); 14] = [
     ("capacities 0, 1, 32,768 and 32,769", cases::capacities),
     ("parts that do not fit", cases::misfits),
     ("labels and the last node", cases::limits),
+    ("several trees by hand", hand::cases),
+    ("written lists of calls", vectors::lists),
     ("lists of calls at capacities to 20", lists::small),
     ("lists of calls at capacities to 1,024", lists::middle),
     ("lists of calls at capacities to 32,768", lists::large),

@@ -1,42 +1,95 @@
-//! The plain list of document 01: each node's parent and label and the root, answers by walking from parent to parent.
+//! The plain list of documents 01 and 02: each node's parent and label, a root's parent being none; answers by walking from parent to parent.
 
 use crate::engine::{Reply, NONE};
 
+#[derive(Clone)]
 pub struct Plain {
     capacity: usize,
     parent: Vec<u16>,
     label: Vec<u16>,
-    root: u16,
 }
 
 impl Plain {
     pub fn new(capacity: usize) -> Plain {
-        Plain { capacity, parent: Vec::new(), label: Vec::new(), root: NONE }
+        Plain { capacity, parent: Vec::new(), label: Vec::new() }
     }
 
-    /// A plain tree as it is, to ask.
-    pub fn of(parent: Vec<u16>, label: Vec<u16>, root: u16) -> Plain {
-        Plain { capacity: parent.len(), parent, label, root }
+    /// Plain trees as they are, to ask.
+    pub fn of(capacity: usize, parent: Vec<u16>, label: Vec<u16>) -> Plain {
+        Plain { capacity, parent, label }
+    }
+
+    #[cfg(link)]
+    pub fn same_trees(&self, other: &Plain) -> bool {
+        self.parent == other.parent && self.label == other.label
     }
 
     pub fn count(&self) -> usize {
         self.parent.len()
     }
 
-    pub fn root(&self) -> u16 {
-        self.root
+    pub fn is_root(&self, x: u16) -> bool {
+        self.parent[x as usize] == NONE
     }
 
-    pub fn add_leaf(&mut self, scratch: usize, parent: u16, label: u16) -> Reply<u16> {
-        if scratch != self.capacity {
-            return Err(3);
+    /// A node and its ancestors, up to its root.
+    fn line(&self, mut x: u16) -> Vec<u16> {
+        let mut line = vec![x];
+        while !self.is_root(x) {
+            x = self.parent[x as usize];
+            line.push(x);
         }
-        if parent as usize >= self.count() {
-            return Err(1);
+        line
+    }
+
+    pub fn root_of(&self, mut x: u16) -> u16 {
+        while !self.is_root(x) {
+            x = self.parent[x as usize];
         }
-        if label < 1 || 9999 < label {
-            return Err(5);
+        x
+    }
+
+    /// How many nodes a root has below it, itself among them.
+    pub fn size(&self, root: u16) -> usize {
+        let mut roots = vec![NONE; self.count()];
+        for x in 0..self.count() as u16 {
+            let (mut v, mut line) = (x, Vec::new());
+            while roots[v as usize] == NONE && !self.is_root(v) {
+                line.push(v);
+                v = self.parent[v as usize];
+            }
+            let found = if self.is_root(v) { v } else { roots[v as usize] };
+            line.into_iter().chain([v]).for_each(|w| roots[w as usize] = found);
         }
+        roots.into_iter().filter(|r| *r == root).count()
+    }
+
+    fn fits(&self, scratch: usize) -> Reply<()> {
+        if scratch == self.capacity {
+            Ok(())
+        } else {
+            Err(3)
+        }
+    }
+
+    fn knows(&self, nodes: &[u16]) -> Reply<()> {
+        if nodes.iter().all(|x| (*x as usize) < self.count()) {
+            Ok(())
+        } else {
+            Err(1)
+        }
+    }
+
+    fn has_label(label: u16) -> Reply<()> {
+        if (1..=9999).contains(&label) {
+            Ok(())
+        } else {
+            Err(5)
+        }
+    }
+
+    /// A node more: its parent and label.
+    fn add(&mut self, parent: u16, label: u16) -> Reply<u16> {
         if self.count() == self.capacity {
             return Err(2);
         }
@@ -45,43 +98,67 @@ impl Plain {
         Ok(self.count() as u16 - 1)
     }
 
-    pub fn add_root(&mut self, scratch: usize) -> Reply<u16> {
-        if scratch != self.capacity {
-            return Err(3);
+    pub fn add_first(&mut self, scratch: usize) -> Reply<u16> {
+        self.fits(scratch)?;
+        self.add(NONE, 0)
+    }
+
+    pub fn add_leaf(&mut self, scratch: usize, parent: u16, label: u16) -> Reply<u16> {
+        self.fits(scratch)?;
+        self.knows(&[parent])?;
+        Plain::has_label(label)?;
+        self.add(parent, label)
+    }
+
+    /// A new root over x.
+    pub fn add_root(&mut self, scratch: usize, x: u16) -> Reply<u16> {
+        self.fits(scratch)?;
+        self.knows(&[x])?;
+        if !self.is_root(x) {
+            return Err(10);
         }
-        if self.count() == self.capacity {
-            return Err(2);
-        }
-        let node = self.count() as u16;
-        if self.root != NONE {
-            self.parent[self.root as usize] = node;
-        }
-        self.parent.push(NONE);
-        self.label.push(0);
-        self.root = node;
+        let node = self.add(NONE, 0)?;
+        self.parent[x as usize] = node;
         Ok(node)
     }
 
-    fn knows(&self, x: u16, y: u16) -> Reply<()> {
-        if (x as usize) < self.count() && (y as usize) < self.count() {
-            Ok(())
+    /// Document 01's new root: over that of node 0, or the first node.
+    pub fn add_root_first_tree(&mut self, scratch: usize) -> Reply<u16> {
+        if self.count() == 0 {
+            self.add_first(scratch)
         } else {
-            Err(1)
+            self.add_root(scratch, self.root_of(0))
         }
     }
 
-    /// A node and its ancestors, up to the root.
-    fn line(&self, mut x: u16) -> Vec<u16> {
-        let mut line = vec![x];
-        while self.parent[x as usize] != NONE {
-            x = self.parent[x as usize];
-            line.push(x);
+    /// The tree of root x under v; how many nodes joined.
+    pub fn link(&mut self, scratch: usize, x: u16, v: u16, label: u16) -> Reply<usize> {
+        self.fits(scratch)?;
+        self.knows(&[x, v])?;
+        Plain::has_label(label)?;
+        if !self.is_root(x) {
+            return Err(10);
         }
-        line
+        if self.root_of(v) == x {
+            return Err(11);
+        }
+        let joined = self.size(x);
+        self.parent[x as usize] = v;
+        self.label[x as usize] = label;
+        Ok(joined)
+    }
+
+    fn are_kindred(&self, x: u16, y: u16) -> Reply<()> {
+        if self.root_of(x) == self.root_of(y) {
+            Ok(())
+        } else {
+            Err(12)
+        }
     }
 
     pub fn query(&self, x: u16, y: u16) -> Reply<[i32; 6]> {
-        self.knows(x, y)?;
+        self.knows(&[x, y])?;
+        self.are_kindred(x, y)?;
         let (up_x, up_y) = (self.line(x), self.line(y));
         let shared = up_x.iter().rev().zip(up_y.iter().rev()).take_while(|(a, b)| a == b).count();
         let (at_x, at_y) = (up_x.len() - shared, up_y.len() - shared);
@@ -99,7 +176,8 @@ impl Plain {
     }
 
     pub fn alike(&self, x: u16, y: u16) -> Reply<u16> {
-        self.knows(x, y)?;
+        self.knows(&[x, y])?;
+        self.are_kindred(x, y)?;
         Ok((self.labels(x) == self.labels(y)) as u16)
     }
 }

@@ -1,4 +1,6 @@
-//! The six rules of inspection, naively, on any table; and the plain tree that a table records.
+//! The six rules of inspection, naively, on any table; and the plain trees that a table records.
+
+use std::collections::HashSet;
 
 use crate::engine::{Table, ENTRIES, FIELDS, NONE, NUMBERS};
 use crate::plain::Plain;
@@ -19,7 +21,7 @@ struct Rows {
     level: Vec<i32>,
     start: Vec<u128>,
     next_free: Vec<u128>,
-    root: u16,
+    root: Vec<u16>,
 }
 
 impl Rows {
@@ -42,7 +44,7 @@ impl Rows {
             level: t.levels.part()[..n].to_vec(),
             start: number(0),
             next_free: number(1),
-            root: t.root,
+            root: field(10),
         }
     }
 
@@ -72,31 +74,58 @@ impl Rows {
         line
     }
 
-    /// Rule 1, the parents and child links.
-    fn is_tree(&self) -> bool {
+    /// The first rows of the stored trees.
+    fn first_rows(&self) -> impl Iterator<Item = usize> + '_ {
+        (0..self.count()).filter(|v| self.parent[*v] == NONE)
+    }
+
+    /// The rows from each tree's root up to its first row. Parents are known to lead up.
+    fn root_lines(&self) -> Vec<Vec<usize>> {
+        self.first_rows().map(|f| self.line(&self.parent, self.root[f])).collect()
+    }
+
+    /// Rule 1, parents and depths.
+    fn is_forest(&self) -> bool {
         let n = self.count();
-        if self.root as usize >= n || self.parent[0] != NONE || self.next[0] != NONE || !(1..n).all(|v| (self.parent[v] as usize) < v) {
-            return false;
-        }
-        (0..n).all(|v| {
-            let kids: Vec<u16> = (1..n).filter(|c| self.parent[*c] as usize == v).map(|c| c as u16).collect();
-            self.first[v] == kids.first().copied().unwrap_or(NONE)
-                && self.last[v] == kids.last().copied().unwrap_or(NONE)
-                && kids.iter().enumerate().all(|(i, c)| self.next[*c as usize] == kids.get(i + 1).copied().unwrap_or(NONE))
+        (0..n).all(|v| match self.parent[v] {
+            NONE => self.depth[v] == 0,
+            p => (p as usize) < n && u32::from(self.depth[v]) == u32::from(self.depth[p as usize]) + 1,
         })
     }
 
-    /// Rule 1, levels, depths and labels.
+    /// Rule 1, child links: the children in some order, each once.
+    fn has_child_links(&self) -> bool {
+        let n = self.count();
+        let listed = |v: usize| {
+            let (mut list, mut c) = (Vec::new(), self.first[v]);
+            while (c as usize) < n && list.len() <= n {
+                list.push(c as usize);
+                c = self.next[c as usize];
+            }
+            let last = list.last().map_or(NONE, |w| *w as u16);
+            list.sort();
+            c == NONE && last == self.last[v] && list.into_iter().eq((0..n).filter(|w| self.parent[*w] as usize == v))
+        };
+        (0..n).all(listed) && self.first_rows().all(|f| self.next[f] == NONE)
+    }
+
+    /// Rule 1, roots, levels and labels.
     fn is_recorded(&self) -> bool {
-        let on_line = self.line(&self.parent, self.root);
-        (0..self.count()).all(|v| {
-            let top = on_line.contains(&v);
-            let (depth, level) = match self.parent[v] {
-                NONE => (0, 0),
-                p => (i64::from(self.depth[p as usize]) + 1, i64::from(self.level[p as usize]) + if top { -1 } else { 1 }),
+        let n = self.count();
+        if !self.first_rows().all(|f| (self.root[f] as usize) < n && self.label[self.root[f] as usize] == 0) {
+            return false;
+        }
+        let lines = self.root_lines();
+        if !self.first_rows().zip(&lines).all(|(f, line)| line.last() == Some(&f)) {
+            return false;
+        }
+        let on_line: HashSet<usize> = lines.into_iter().flatten().collect();
+        (0..n).all(|v| {
+            let level = match self.parent[v] {
+                NONE => 0,
+                p => i64::from(self.level[p as usize]) + if on_line.contains(&v) { -1 } else { 1 },
             };
-            let label = if top { self.label[v] == 0 } else { (1..=9999).contains(&self.label[v]) };
-            i64::from(self.depth[v]) == depth && i64::from(self.level[v]) == level && label
+            i64::from(self.level[v]) == level && self.label[v] <= 9999
         })
     }
 
@@ -132,18 +161,18 @@ impl Rows {
             let (s, set) = (self.size[v], self.set_size[v]);
             1 <= set && set <= s && 5 * s < 6 * set
         };
-        let fourth = |w: usize| {
-            let u = self.upper[w] as usize;
-            2 * self.size[w] + self.set_size[u] <= 2 * self.size[u]
+        let fourth = |w: usize| match self.upper[w] {
+            NONE => true,
+            u => 2 * self.size[w] + self.set_size[u as usize] <= 2 * self.size[u as usize],
         };
-        (0..self.count()).all(third) && (1..self.count()).all(fourth)
+        (0..self.count()).all(third) && (0..self.count()).all(fourth)
     }
 
     /// Rule 5.
     fn has_spans(&self) -> bool {
-        self.start[0] == 0
+        self.first_rows().all(|f| self.start[f] == 0)
             && (0..self.count()).all(|u| {
-                let kids: Vec<usize> = (1..self.count()).filter(|w| self.upper[*w] as usize == u).collect();
+                let kids: Vec<usize> = (0..self.count()).filter(|w| self.upper[*w] as usize == u).collect();
                 let apart = |a: usize, b: usize| a == b || self.end(a) <= self.start[b] || self.end(b) <= self.start[a];
                 let total: u128 = kids.iter().map(|w| self.set_size[*w].pow(4)).sum();
                 kids.iter().all(|a| kids.iter().all(|b| apart(*a, *b)))
@@ -171,23 +200,23 @@ pub fn passes(t: &Table) -> bool {
     if t.count as usize > t.levels.part().len() {
         return false;
     }
-    if t.count == 0 {
-        return t.root == NONE;
-    }
     let rows = Rows::of(t);
-    rows.is_tree() && rows.is_recorded() && rows.has_true_paths() && rows.has_sizes() && rows.has_spans() && rows.has_entries(t)
+    rows.is_forest()
+        && rows.has_child_links()
+        && rows.is_recorded()
+        && rows.has_true_paths()
+        && rows.has_sizes()
+        && rows.has_spans()
+        && rows.has_entries(t)
 }
 
-/// The plain tree of a table that passes: along the line from row 0 to the root parents turn round.
+/// The plain trees of a table that passes: along the line from a first row to its root parents turn round.
 pub fn plain(t: &Table) -> Plain {
     let rows = Rows::of(t);
     let mut parent = rows.parent.clone();
-    if t.count != 0 {
-        let line = rows.line(&rows.parent, t.root);
-        for pair in line.windows(2) {
-            parent[pair[1]] = pair[0] as u16;
-        }
-        parent[t.root as usize] = NONE;
+    for line in rows.root_lines() {
+        parent[line[0]] = NONE;
+        line.windows(2).for_each(|pair| parent[pair[1]] = pair[0] as u16);
     }
-    Plain::of(parent, rows.label.clone(), t.root)
+    Plain::of(t.levels.part().len(), parent, rows.label.clone())
 }

@@ -1,6 +1,7 @@
-//! The stored tree of document 01 by its own words: growth with every size, path, span and ancestor entry made from the rules, not from the engine.
+//! The stored trees of documents 01 and 02 by their own words: growths and links with every size, path, span and ancestor entry made from the rules,
+//! not from the engine.
 
-use crate::engine::{Grown, Table, ENTRIES, FIELDS, NONE, NUMBERS};
+use crate::engine::{Grown, Table, BLANK, ENTRIES, FIELDS, NONE, NUMBERS};
 use crate::powers::POWERS;
 
 #[derive(Clone)]
@@ -13,6 +14,8 @@ pub struct Row {
     pub set_size: u64,
     pub depth: u16,
     pub label: u16,
+    /// The root of the tree, in its first row; else none.
+    pub root: u16,
     pub level: i32,
     pub start: u64,
     pub next_free: u64,
@@ -29,14 +32,41 @@ impl Row {
     }
 }
 
+/// A row that stands alone.
+fn lone() -> Row {
+    Row {
+        parent: NONE,
+        children: Vec::new(),
+        upper: NONE,
+        path: NONE,
+        size: 0,
+        set_size: 0,
+        depth: 0,
+        label: 0,
+        root: NONE,
+        level: 0,
+        start: 0,
+        next_free: 0,
+        entries: vec![NONE; ENTRIES],
+    }
+}
+
+/// A link that was made: the rows renumbered, and the rows that joined.
+#[derive(Clone, Copy, PartialEq, Debug)]
+pub struct Linked {
+    pub rows: u64,
+    pub joined: usize,
+}
+
 pub struct Stored {
     pub rows: Vec<Row>,
-    pub root: u16,
+    /// The row at whose subtree the last renumbering was made.
+    pub head: u16,
 }
 
 impl Stored {
     pub fn new() -> Stored {
-        Stored { rows: Vec::new(), root: NONE }
+        Stored { rows: Vec::new(), head: NONE }
     }
 
     fn row(&self, v: u16) -> &Row {
@@ -48,38 +78,103 @@ impl Stored {
         parent == NONE || self.row(parent).path != v
     }
 
+    /// A row and those above it in its stored tree.
+    fn line(&self, mut v: u16) -> Vec<u16> {
+        let mut line = Vec::new();
+        while v != NONE {
+            line.push(v);
+            v = self.row(v).parent;
+        }
+        line
+    }
+
+    fn first_row(&self, mut v: u16) -> u16 {
+        while self.row(v).parent != NONE {
+            v = self.row(v).parent;
+        }
+        v
+    }
+
+    pub fn root_of(&self, v: u16) -> u16 {
+        self.row(self.first_row(v)).root
+    }
+
+    pub fn add_first(&mut self) -> Grown {
+        let node = self.rows.len() as u16;
+        self.rows.push(Row { root: node, ..lone() });
+        Grown { node, rows: self.join(node, NONE, 0, 0) }
+    }
+
     pub fn add_leaf(&mut self, parent: u16, label: u16) -> Grown {
         let level = self.row(parent).level + 1;
         self.grow(parent, label, level)
     }
 
-    pub fn add_root(&mut self) -> Grown {
-        let level = if self.root == NONE { 0 } else { self.row(self.root).level - 1 };
-        let grown = self.grow(self.root, 0, level);
-        self.root = grown.node;
+    /// A new root over x, stored as a leaf under it.
+    pub fn add_root(&mut self, x: u16) -> Grown {
+        let level = self.row(x).level - 1;
+        let first = self.first_row(x);
+        let grown = self.grow(x, 0, level);
+        self.rows[first as usize].root = grown.node;
         grown
+    }
+
+    /// Document 01's new root.
+    pub fn add_root_first_tree(&mut self) -> Grown {
+        if self.rows.is_empty() {
+            self.add_first()
+        } else {
+            self.add_root(self.root_of(0))
+        }
     }
 
     fn grow(&mut self, parent: u16, label: u16, level: i32) -> Grown {
         let node = self.rows.len() as u16;
+        self.rows.push(lone());
+        Grown { node, rows: self.join(node, parent, label, level) }
+    }
+
+    /// The tree of root x under v: its rows stand alone, then join level by level below x, by rising number within a level, each under its plain parent.
+    pub fn link(&mut self, x: u16, v: u16, label: u16) -> Linked {
+        let receiving = self.first_row(v);
+        let line = self.line(x);
+        let rows = self.below(*line.last().expect("a line of rows"));
+        let mut parent: Vec<u16> = self.rows.iter().map(|r| r.parent).collect();
+        parent[x as usize] = v;
+        for pair in line.windows(2) {
+            parent[pair[1] as usize] = pair[0];
+        }
+        let depth = |mut w: u16| {
+            let mut steps = 0;
+            while w != x {
+                w = parent[w as usize];
+                steps += 1;
+            }
+            steps
+        };
+        let mut order: Vec<(usize, u16)> = rows.into_iter().map(|w| (depth(w), w)).collect();
+        order.sort();
+        for (_, w) in &order {
+            let label = if *w == x { label } else { self.row(*w).label };
+            self.rows[*w as usize] = Row { label, ..lone() };
+        }
+        let mut linked = Linked { rows: 0, joined: order.len() };
+        for (_, w) in order {
+            let above = parent[w as usize];
+            linked.rows += u64::from(self.join(w, above, self.row(w).label, self.row(above).level + 1));
+        }
+        self.head = receiving;
+        linked
+    }
+
+    /// A row that stands alone becomes a leaf; the rows renumbered.
+    fn join(&mut self, node: u16, parent: u16, label: u16, level: i32) -> u16 {
         let (depth, upper) = match parent {
             NONE => (0, NONE),
             p => (self.row(p).depth + 1, if self.is_apex(p) { p } else { self.row(p).upper }),
         };
-        self.rows.push(Row {
-            parent,
-            children: Vec::new(),
-            upper,
-            path: NONE,
-            size: 0,
-            set_size: 0,
-            depth,
-            label,
-            level,
-            start: 0,
-            next_free: 0,
-            entries: vec![NONE; ENTRIES],
-        });
+        let row = &mut self.rows[node as usize];
+        (row.parent, row.upper, row.depth, row.label, row.level) = (parent, upper, depth, label, level);
         if parent != NONE {
             self.rows[parent as usize].children.push(node);
         }
@@ -92,7 +187,8 @@ impl Stored {
             }
             v = row.upper;
         }
-        Grown { node, rows: self.renumber(head) }
+        self.head = head;
+        self.renumber(head)
     }
 
     /// The rows at or below a row, parents first.
@@ -194,11 +290,11 @@ impl Stored {
             let a = &table.ancestors.part()[ENTRIES * x..][..ENTRIES];
             let level = table.levels.part()[x];
             match self.rows.get(x) {
-                None => f == [NONE, NONE, NONE, NONE, NONE, NONE, 0, 0, 0, 0] && n == [0, 0] && level == 0 && a.iter().all(|e| *e == NONE),
+                None => f == BLANK && n == [0, 0] && level == 0 && a.iter().all(|e| *e == NONE),
                 Some(r) => {
                     let first = r.children.first().copied().unwrap_or(NONE);
                     let last = r.children.last().copied().unwrap_or(NONE);
-                    f == [r.parent, first, last, next[x], r.upper, r.path, r.size as u16, r.set_size as u16, r.depth, r.label]
+                    f == [r.parent, first, last, next[x], r.upper, r.path, r.size as u16, r.set_size as u16, r.depth, r.label, r.root, 0]
                         && n == [r.start, r.next_free]
                         && level == r.level
                         && a == r.entries

@@ -1,12 +1,13 @@
-//! Byte trees of capacity 128 (docs/FORMAT.md): every call has the outcome of the table form on the decoded tree, good or damaged.
+//! Byte trees of capacity 128 (docs/FORMAT.md): every call has the outcome of the table form on the decoded tree, good or damaged. A byte tree's new root
+//! names none: it goes over the first tree's.
 
-use crate::engine::{Reply, Table};
+use crate::engine::{Grown, Reply, Table, NONE};
 use crate::lent::Lent;
 use crate::random::Random;
 use crate::tally::{check, equal};
 
 const CAPACITY: usize = 128;
-const BYTES: usize = 36_356;
+const BYTES: usize = 36_610;
 const LISTS: usize = 12;
 const DAMAGED: usize = 10_000;
 
@@ -19,11 +20,10 @@ mod raw {
     }
 }
 
-/// A tree's bytes: count, root, fields, numbers, levels, ancestor entries, low byte first.
+/// A tree's bytes: count, fields, numbers, levels, ancestor entries, low byte first.
 fn encode(t: &Table) -> Vec<u8> {
     let mut bytes = Vec::with_capacity(BYTES);
     bytes.extend(t.count.to_le_bytes());
-    bytes.extend(t.root.to_le_bytes());
     t.fields.part().iter().for_each(|c| bytes.extend(c.to_le_bytes()));
     t.numbers.part().iter().for_each(|c| bytes.extend(c.to_le_bytes()));
     t.levels.part().iter().for_each(|c| bytes.extend(c.to_le_bytes()));
@@ -40,7 +40,6 @@ fn decode(bytes: &[u8]) -> Table {
         word.to_vec()
     };
     t.count = u16::from_le_bytes(take(2).try_into().unwrap());
-    t.root = u16::from_le_bytes(take(2).try_into().unwrap());
     t.fields.part_mut().iter_mut().for_each(|c| *c = u16::from_le_bytes(take(2).try_into().unwrap()));
     t.numbers.part_mut().iter_mut().for_each(|c| *c = u64::from_le_bytes(take(8).try_into().unwrap()));
     t.levels.part_mut().iter_mut().for_each(|c| *c = i32::from_le_bytes(take(4).try_into().unwrap()));
@@ -119,6 +118,22 @@ fn grown(out: &[u8]) -> [u16; 2] {
     [u16::from_le_bytes([out[0], out[1]]), u16::from_le_bytes([out[2], out[3]])]
 }
 
+/// The new root of the table form over the first tree's, which a byte tree does not name; none where the table form has no such call, since what row 0
+/// records is no root.
+fn add_root(table: &mut Table, scratch: &Lent<u16>) -> Option<Reply<Grown>> {
+    if table.count == 0 {
+        return Some(table.add_first(scratch));
+    }
+    if table.count as usize == CAPACITY {
+        return Some(Err(2));
+    }
+    let root = if table.count as usize > CAPACITY { NONE } else { table.root_of(0) };
+    if root >= table.count {
+        return Some(Err(4));
+    }
+    Some(table.add_root(scratch, root)).filter(|reply| *reply != Err(10))
+}
+
 /// One growth and one question on both forms; the tree after it is the table after it.
 fn step(tree: &mut Tree, random: &mut Random) {
     let (mut table, scratch) = (decode(tree.bytes.part()), Lent::new(CAPACITY, 0));
@@ -126,7 +141,12 @@ fn step(tree: &mut Tree, random: &mut Random) {
     let node = |random: &mut Random| if random.one_in(24) { random.word() as u16 } else { random.below(count) as u16 };
     let (parent, label) = (node(random), if random.one_in(24) { [0, 9999, 10000][random.below(3)] } else { 1 + random.below(3) as u16 });
     let (found, expected) = if table.count == 0 || random.one_in(10) {
-        (tree.add_root(4), table.add_root(&scratch))
+        let found = tree.add_root(4);
+        let Some(expected) = add_root(&mut table, &scratch) else {
+            check(found.map_or_else(|code| code == 4, |_| true), || format!("new root of a damaged byte tree gave {found:?}"));
+            return;
+        };
+        (found, expected)
     } else {
         (tree.add_leaf(parent, label, 4), table.add_leaf(&scratch, parent, label))
     };
@@ -167,9 +187,9 @@ pub fn damaged() -> String {
         for _ in 0..1 + random.below(4) {
             let place = match random.below(4) {
                 0 => random.below(BYTES),
-                1 => random.below(4),
-                2 => 4 + random.below(20 * (1 + round / 24).min(CAPACITY)),
-                _ => 2564 + random.below(16 * (1 + round / 24).min(CAPACITY)),
+                1 => random.below(2),
+                2 => 2 + random.below(22 * (1 + round / 24).min(CAPACITY)),
+                _ => 3074 + random.below(16 * (1 + round / 24).min(CAPACITY)),
             };
             tree.bytes.part_mut()[place] = if random.one_in(2) { random.word() as u8 } else { random.below(4) as u8 };
         }

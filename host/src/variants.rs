@@ -1,14 +1,18 @@
-//! Tables that no list of calls makes: the tree of a good table with other paths, set sizes and spans, at the edges of the rules.
+//! Tables that no list of calls makes: the trees of a good table with other paths, set sizes and spans, at the edges of the rules.
 
-use crate::engine::{Table, ENTRIES, FIELDS, NONE, NUMBERS};
+use crate::engine::{Table, ENTRIES, FIELDS, NONE, NUMBERS, ROOT};
 use crate::powers::POWERS;
 use crate::random::Random;
 
 const PARENT: usize = 0;
+const FIRST: usize = 1;
+const LAST: usize = 2;
+const NEXT: usize = 3;
 const UPPER: usize = 4;
 const PATH: usize = 5;
 const SIZE: usize = 6;
 const SET_SIZE: usize = 7;
+const DEPTH: usize = 8;
 
 fn get(t: &Table, v: usize, k: usize) -> u16 {
     t.fields.part()[FIELDS * v + k]
@@ -26,10 +30,36 @@ fn start(t: &Table, v: usize) -> u64 {
     t.numbers.part()[NUMBERS * v]
 }
 
+fn shuffle(rows: &mut [usize], random: &mut Random) {
+    for i in (1..rows.len()).rev() {
+        rows.swap(i, random.below(i + 1));
+    }
+}
+
+/// Children linked in any order.
+fn link_children(t: &mut Table, n: usize, random: &mut Random) {
+    for v in 0..n {
+        let mut children: Vec<usize> = (0..n).filter(|c| get(t, *c, PARENT) as usize == v).collect();
+        shuffle(&mut children, random);
+        put(t, v, FIRST, children.first().map_or(NONE, |c| *c as u16));
+        put(t, v, LAST, children.last().map_or(NONE, |c| *c as u16));
+        for (i, c) in children.iter().enumerate() {
+            put(t, *c, NEXT, children.get(i + 1).map_or(NONE, |c| *c as u16));
+        }
+    }
+}
+
+/// Anything for a root where a row is not a tree's first.
+fn record_roots(t: &mut Table, n: usize, random: &mut Random) {
+    for v in (0..n).filter(|v| get(t, *v, PARENT) != NONE).collect::<Vec<usize>>() {
+        put(t, v, ROOT, random.word() as u16);
+    }
+}
+
 /// Paths kept, cut or led to any child; compressed parents and sizes true to them.
 fn lead_paths(t: &mut Table, n: usize, random: &mut Random) {
     for v in 0..n {
-        let children: Vec<usize> = (1..n).filter(|c| get(t, *c, PARENT) as usize == v).collect();
+        let children: Vec<usize> = (0..n).filter(|c| get(t, *c, PARENT) as usize == v).collect();
         if random.one_in(6) {
             let path = if children.is_empty() || random.one_in(2) { NONE } else { children[random.below(children.len())] as u16 };
             put(t, v, PATH, path);
@@ -42,6 +72,8 @@ fn lead_paths(t: &mut Table, n: usize, random: &mut Random) {
             u = get(t, u as usize, PARENT);
         }
         put(t, v, UPPER, u);
+    }
+    for v in 0..n {
         let mut b = v as u16;
         while b != NONE {
             let size = get(t, b as usize, SIZE);
@@ -63,12 +95,14 @@ fn choose_set_sizes(t: &mut Table, n: usize, random: &mut Random) {
 
 /// Spans one after another from p in any order, with gaps now and then; next free numbers at or about their bounds.
 fn place_spans(t: &mut Table, n: usize, random: &mut Random) {
-    t.numbers.part_mut()[0] = 0;
-    for u in 0..n {
-        let mut children: Vec<usize> = (1..n).filter(|w| get(t, *w, UPPER) as usize == u).collect();
-        for i in (1..children.len()).rev() {
-            children.swap(i, random.below(i + 1));
+    let mut rows: Vec<usize> = (0..n).collect();
+    rows.sort_by_key(|v| get(t, *v, DEPTH));
+    for u in rows {
+        if get(t, u, UPPER) == NONE {
+            t.numbers.part_mut()[NUMBERS * u] = 0;
         }
+        let mut children: Vec<usize> = (0..n).filter(|w| get(t, *w, UPPER) as usize == u).collect();
+        shuffle(&mut children, random);
         let p = start(t, u) + fourth(t, u);
         let (mut at, mut total) = (p, 0);
         for w in &children {
@@ -104,6 +138,8 @@ fn fill_entries(t: &mut Table, n: usize) {
 pub fn of(table: &Table, random: &mut Random) -> Table {
     let (mut t, n) = (table.clone(), table.count as usize);
     if n != 0 {
+        link_children(&mut t, n, random);
+        record_roots(&mut t, n, random);
         lead_paths(&mut t, n, random);
         choose_set_sizes(&mut t, n, random);
         place_spans(&mut t, n, random);

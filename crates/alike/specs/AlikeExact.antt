@@ -2,16 +2,14 @@
 -- their lists of labels, by the naive definition on the plain trees that the table records, are equal. On nodes of different trees it is refusal 12.
 use mathlib.Core.Path.{_≡_, refl, ap, sym, _∙_}
 use mathlib.Core.Bool.{Bool, true, false}
-use mathlib.Core.Logic.{inl, inr, _≢_}
+use mathlib.Core.Logic.{_≢_}
 use Prim.Native.Nat.{ℕ, zero, suc, _≤_, _<_}
 use native.Mathlib.Decide.{decLt, ℕ-discrete}
 use native.Mathlib.Omega.{arith}
 use lib.IntN.{ℤ, pos, _+ℤ_, _-ℤ_, +ℤ-comm, +ℤ-negℤ-cancel}
 use Rattle.laws.specs.Test.{Says, holds, fails, says-eq, says-true, says-false, says-map, says-eqb}
 use Rattle.tree_laws.specs.Ancestor.{none}
-use Rattle.tree_laws.specs.AncestorLaws.{cases}
 use Rattle.tree_laws.specs.Nca.{Kindred}
-use Rattle.tree_laws.specs.RerootLaws.{plain-root-over}
 use Rattle.tree_laws.specs.SizeDepth.{depth-below}
 use Rattle.rows.specs.declared.refusal.Refusal.the-variants.{Corrupt, OtherTree}
 use Rattle.rows.specs.declared.state.State.{State}
@@ -21,9 +19,10 @@ use Rattle.rows.specs.Table.{Table, label, level}
 use Rattle.rows.specs.PlainTree.{first, plain}
 use Rattle.rows.specs.Answer.{SameLabels}
 use Rattle.rows.specs.Rules.{Rules, numbered}
-use Rattle.numbering.specs.Numbered.{InTree, in-tree, storedTree, stored-kindred}
+use Rattle.numbering.specs.Numbered.{InTree, in-tree}
 use Rattle.numbering.specs.Lines.{root-in}
-use Rattle.numbering.specs.LevelLaws.{plain-tree, level-root}
+use Rattle.numbering.specs.LevelLaws.{level-root}
+use Rattle.numbering.specs.PlainRoot.{top-root}
 use Rattle.question.specs.CompressedExact.{row-passes}
 use Rattle.question.specs.PlainShape.{plainDepthOf, plain-shape, plain-depth-is, plain-parent-in, kindred-first, first-kindred}
 use Rattle.question.specs.SoughtExact.{sought-one, sought-two}
@@ -65,19 +64,10 @@ module _ {capacity : ℕ} {t : Table} (r : Rules capacity t) (fits : capacity �
   depth-level {x} {y} i j e =
       level-root r fits x i ∙ ap (λ (d : ℕ). level t (t .root f) +ℤ pos d) (sym (plain-depth-is r fits i) ∙ e ∙ plain-depth-is r fits j) ∙ sym (level-root r fits y j)
 
-  -- only the root has no plain parent
-  top-root : {x : ℕ} → InTree t f x → plain t x ≡ none → x ≡ t .root f
-  top-root {x} i e =
-      let o = root-in r fits i in
-      elim (cases (plain-root-over (storedTree (numbered r fits)) (o .inUse) (i .inUse) (stored-kindred (numbered r fits) i o))) [
-        | inl z ↦ sym z
-        | inr s ↦ absurd (s .0 (sym (plain-tree r fits i) ∙ e))
-      ]
-
-  -- so of two rows of one depth each has a plain parent
+  -- only the root has no plain parent, so of two rows of one depth each has one
   some-parent : {x y : ℕ} → InTree t f x → InTree t f y → x ≢ y → plainDepthOf t x ≡ plainDepthOf t y → plain t x ≢ none
   some-parent {x} {y} i j d e z = elim (ℕ-discrete (plain t y) none) [
-    | yes w ↦ d (top-root i z ∙ sym (top-root j w))
+    | yes w ↦ d (top-root r fits i z ∙ sym (top-root r fits j w))
     | no w ↦ omega (arith, plain-shape r fits .root x (i .inUse) z, plain-shape r fits .step y (j .inUse) w)
   ]
 

@@ -110,8 +110,8 @@ module _ (b : List ℕ) (u : Under 256 b) where
 
 -- Trees
 
-state-eq : {a b : ℕ} (s : State) → a ≡ s .count → b ≡ s .root → _≡_ {A = State} (record { count = a; root = b }) s
-state-eq s p q = rw (p, q)
+state-eq : {a : ℕ} (s : State) → a ≡ s .count → _≡_ {A = State} (record { count = a }) s
+state-eq s p = rw p
 
 parts-eq : {f m a : List ℕ} {l : List ℤ} (t : Parts) → f ≡ t .fields → m ≡ t .numbers → l ≡ t .levels → a ≡ t .ancestors → partsOf f m l a ≡ t
 parts-eq t p q r h = rw (p, q, r, h)
@@ -120,28 +120,27 @@ parts-eq t p q r h = rw (p, q, r, h)
 module _ (s : State) (t : Parts) (f : Fits treeRows t) (g : InBytes s t) where
   pub state-back : stateIn (encoded s t) ≡ s
   unfolding stateIn encoded
-  state-back = state-eq s (value-bytes 2 (s .count) (g .count)) (value-bytes 2 (s .root) (g .root))
+  state-back = state-eq s (value-bytes 2 (s .count) (g .count))
 
   pub parts-back : partsIn (encoded s t) ≡ t
   unfolding partsIn encoded
   parts-back =
       let c = bytes 2 (s .count) in
-      let r = bytes 2 (s .root) in
       let x = columnOf 2 (t .fields) in
       let n = columnOf 8 (t .numbers) in
       let v = columnOf 4 (map unsigned (t .levels)) in
       let a = columnOf 2 (t .ancestors) in
-      let lx : length x ≡ 2560 = length-column 2 (t .fields) ∙ ap (λ (k : ℕ). k * 2) (f .fields) in
+      let lx : length x ≡ 3072 = length-column 2 (t .fields) ∙ ap (λ (k : ℕ). k * 2) (f .fields) in
       let ln : length n ≡ 2048 = length-column 8 (t .numbers) ∙ ap (λ (k : ℕ). k * 8) (f .numbers) in
       let lv : length v ≡ 512 = length-column 4 (map unsigned (t .levels)) ∙ ap (λ (k : ℕ). k * 4) (length-map (t .levels) unsigned ∙ f .levels) in
       let e : x ++ (n ++ (v ++ a)) ≡ (x ++ (n ++ v)) ++ (a ++ []) = simp (append-assoc, append-nil) in
       parts-eq t
-      (column-read (c ++ r) (n ++ (v ++ a)) fieldsPlace 1280 refl 2 (t .fields) (f .fields) (g .fields))
-      (column-read (c ++ (r ++ x)) (v ++ a) numbersPlace 256 (omega arith) 8 (t .numbers) (f .numbers) (g .numbers))
-      (ap (λ (l : List ℕ). levelsAt 128 (c ++ (r ++ l)) levelsPlace) (sym (append-assoc x n (v ++ a)))
-      ∙ levels-read (c ++ (r ++ (x ++ n))) a levelsPlace 128 (simp length-append (omega arith)) (t .levels) (f .levels) (g .levels))
-      (ap (λ (l : List ℕ). numbersAt 2 15616 (c ++ (r ++ l)) ancestorsPlace) e
-      ∙ column-read (c ++ (r ++ (x ++ (n ++ v)))) [] ancestorsPlace 15616 (simp length-append (omega arith)) 2 (t .ancestors) (f .ancestors) (g .ancestors))
+      (column-read c (n ++ (v ++ a)) fieldsPlace 1536 refl 2 (t .fields) (f .fields) (g .fields))
+      (column-read (c ++ x) (v ++ a) numbersPlace 256 (omega arith) 8 (t .numbers) (f .numbers) (g .numbers))
+      (ap (λ (l : List ℕ). levelsAt 128 (c ++ l) levelsPlace) (sym (append-assoc x n (v ++ a)))
+      ∙ levels-read (c ++ (x ++ n)) a levelsPlace 128 (simp length-append (omega arith)) (t .levels) (f .levels) (g .levels))
+      (ap (λ (l : List ℕ). numbersAt 2 15616 (c ++ l) ancestorsPlace) e
+      ∙ column-read (c ++ (x ++ (n ++ v))) [] ancestorsPlace 15616 (simp length-append (omega arith)) 2 (t .ancestors) (f .ancestors) (g .ancestors))
 
 -- what stands at a place and what follows it
 follow : (b : List ℕ) (p n : ℕ) {a r : List ℕ} → a ≡ take n (drop p b) → r ≡ drop (p + n) b → a ++ r ≡ drop p b
@@ -157,7 +156,6 @@ bytes-back b e u =
     let levels : columnOf 4 (map unsigned (levelsAt 128 b levelsPlace)) ≡ take 512 (drop levelsPlace b) =
     ap (columnOf 4) (levels-written b u levelsPlace 128) ∙ column-written b u 4 levelsPlace 128 (omega arith) in
     follow b 0 2 (bytes-at b u 2 0 (omega arith))
-    (follow b 2 2 (bytes-at b u 2 2 (omega arith))
-    (follow b fieldsPlace 2560 (column-written b u 2 fieldsPlace 1280 (omega arith))
+    (follow b fieldsPlace 3072 (column-written b u 2 fieldsPlace 1536 (omega arith))
     (follow b numbersPlace 2048 (column-written b u 8 numbersPlace 256 (omega arith))
-    (follow b levelsPlace 512 levels entries))))
+    (follow b levelsPlace 512 levels entries)))

@@ -13,34 +13,34 @@ abbrev pub treeRows : ℕ
 treeRows = 128
 
 abbrev pub treeBytes : ℕ
-treeBytes = 36356
+treeBytes = 36866
 
--- the places of the columns; the count is at 0 and the root at 2
+-- the places of the columns; the count is at 0
 abbrev pub fieldsPlace : ℕ
-fieldsPlace = 4
+fieldsPlace = 2
 
 abbrev pub numbersPlace : ℕ
-numbersPlace = 2564
+numbersPlace = 3074
 
 abbrev pub levelsPlace : ℕ
-levelsPlace = 4612
+levelsPlace = 5122
 
 abbrev pub ancestorsPlace : ℕ
-ancestorsPlace = 5124
+ancestorsPlace = 5634
 
--- count and root that bytes hold
+-- the count that bytes hold
 unfoldable pub stateIn : List ℕ → State
-stateIn b = record { count = valueAt 2 b 0; root = valueAt 2 b 2 }
+stateIn b = record { count = valueAt 2 b 0 }
 
 -- and the parts of the table
 unfoldable pub partsIn : List ℕ → Parts
-partsIn b = partsOf (numbersAt 2 1280 b fieldsPlace) (numbersAt 8 256 b numbersPlace) (levelsAt 128 b levelsPlace) (numbersAt 2 15616 b ancestorsPlace)
+partsIn b = partsOf (numbersAt 2 1536 b fieldsPlace) (numbersAt 8 256 b numbersPlace) (levelsAt 128 b levelsPlace) (numbersAt 2 15616 b ancestorsPlace)
 
 -- a tree as bytes
 unfoldable pub encoded : State → Parts → List ℕ
 encoded s t =
-    bytes 2 (s .count) ++ (bytes 2 (s .root)
-    ++ (columnOf 2 (t .fields) ++ (columnOf 8 (t .numbers) ++ (columnOf 4 (map unsigned (t .levels)) ++ columnOf 2 (t .ancestors)))))
+    bytes 2 (s .count)
+    ++ (columnOf 2 (t .fields) ++ (columnOf 8 (t .numbers) ++ (columnOf 4 (map unsigned (t .levels)) ++ columnOf 2 (t .ancestors))))
 
 -- the numbers of a list are below a limit
 abbrev pub Under : ℕ → List ℕ → Type 0
@@ -49,7 +49,6 @@ Under limit l = (i : ℕ) → i < length l → getD l i 0 < limit
 -- the numbers of a tree fit the bytes that they are kept in
 pub record InBytes (s : State) (t : Parts) : Type 0 where
   pub count : s .count < 65536
-  pub root : s .root < 65536
   pub fields : Under 65536 (t .fields)
   pub numbers : Under 18446744073709551616 (t .numbers)
   pub levels : Levels32 (t .levels)

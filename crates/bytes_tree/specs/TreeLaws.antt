@@ -32,7 +32,7 @@ parts-fit b = record {
   least = omega arith;
   most = omega arith;
   levels = length-levels 128 b _;
-  fields = length-numbers 2 1280 b _;
+  fields = length-numbers 2 1536 b _;
   numbers = length-numbers 8 256 b _;
   ancestors = length-numbers 2 15616 b _;
 }
@@ -56,25 +56,23 @@ sets-next : (us vs l : List ℕ) (i j : ℕ) → i + length us ≡ j → sets (s
 sets-next us vs l i j e = rw (← e) (sets-join us vs l i)
 
 pub tree-stored : (l : List ℕ) (s : State) (t : Parts) → length l ≡ treeBytes → Fits treeRows t
-    → sets (sets (sets (sets (sets (sets l 0 (bytes 2 (s .count))) 2 (bytes 2 (s .root))) fieldsPlace (columnOf 2 (t .fields))) numbersPlace (columnOf 8 (t .numbers)))
+    → sets (sets (sets (sets (sets l 0 (bytes 2 (s .count))) fieldsPlace (columnOf 2 (t .fields))) numbersPlace (columnOf 8 (t .numbers)))
     levelsPlace (columnOf 4 (map unsigned (t .levels)))) ancestorsPlace (columnOf 2 (t .ancestors)) ≡ encoded s t
 unfolding encoded
 tree-stored l s t e f =
     let c = bytes 2 (s .count) in
-    let r = bytes 2 (s .root) in
     let x = columnOf 2 (t .fields) in
     let n = columnOf 8 (t .numbers) in
     let v = columnOf 4 (map unsigned (t .levels)) in
     let a = columnOf 2 (t .ancestors) in
-    let lx : length x ≡ 2560 = length-column 2 (t .fields) ∙ ap (λ (k : ℕ). k * 2) (f .fields) in
+    let lx : length x ≡ 3072 = length-column 2 (t .fields) ∙ ap (λ (k : ℕ). k * 2) (f .fields) in
     let ln : length n ≡ 2048 = length-column 8 (t .numbers) ∙ ap (λ (k : ℕ). k * 8) (f .numbers) in
     let lv : length v ≡ 512 = length-column 4 (map unsigned (t .levels)) ∙ ap (λ (k : ℕ). k * 4) (length-map (t .levels) unsigned ∙ f .levels) in
-    let b2 = sets (sets l 0 c) 2 r in
-    let b3 = sets b2 fieldsPlace x in
-    let b4 = sets b3 numbersPlace n in
-    sets-next v a b4 levelsPlace ancestorsPlace (omega arith)
-    ∙ sets-next n (v ++ a) b3 numbersPlace levelsPlace (omega arith)
-    ∙ sets-next x (n ++ (v ++ a)) b2 fieldsPlace numbersPlace (omega arith)
-    ∙ sets-next r (x ++ (n ++ (v ++ a))) (sets l 0 c) 2 fieldsPlace refl
-    ∙ sets-next c (r ++ (x ++ (n ++ (v ++ a)))) l 0 2 refl
-    ∙ sets-all l (c ++ (r ++ (x ++ (n ++ (v ++ a))))) (e ∙ sym (length-encoded s t f))
+    let b1 = sets l 0 c in
+    let b2 = sets b1 fieldsPlace x in
+    let b3 = sets b2 numbersPlace n in
+    sets-next v a b3 levelsPlace ancestorsPlace (omega arith)
+    ∙ sets-next n (v ++ a) b2 numbersPlace levelsPlace (omega arith)
+    ∙ sets-next x (n ++ (v ++ a)) b1 fieldsPlace numbersPlace (omega arith)
+    ∙ sets-next c (x ++ (n ++ (v ++ a))) l 0 fieldsPlace refl
+    ∙ sets-all l (c ++ (x ++ (n ++ (v ++ a)))) (e ∙ sym (length-encoded s t f))

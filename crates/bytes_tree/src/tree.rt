@@ -1,4 +1,4 @@
-// A whole tree: its count, root and parts from bytes, and back.
+// A whole tree: its count and parts from bytes, and back.
 use crate::columns::read_levels;
 use crate::columns::read16;
 use crate::columns::read64;
@@ -15,19 +15,17 @@ ghost use Rattle.rows.specs.Capacity.{Fits};
 ghost use Rattle.bytes_tree.specs.Tree.{treeRows, treeBytes, stateIn, partsIn, encoded, InBytes};
 
 // The bytes of a tree, and the places of its columns.
-pub const BYTES: usize = 36356;
+pub const BYTES: usize = 36866;
 
 const COUNT: usize = 0;
 
-const ROOT: usize = 2;
+const FIELDS: usize = 2;
 
-const FIELDS: usize = 4;
+const NUMBERS: usize = 3074;
 
-const NUMBERS: usize = 2564;
+const LEVELS: usize = 5122;
 
-const LEVELS: usize = 4612;
-
-const ANCESTORS: usize = 5124;
+const ANCESTORS: usize = 5634;
 
 pub fn read_state(b: &[u8]) -> State
     requires { ⌜ length (now b) ≡ treeBytes ⌝ }
@@ -35,7 +33,6 @@ pub fn read_state(b: &[u8]) -> State
 {
     State {
         count: word16(b, COUNT),
-        root: word16(b, ROOT),
     }
 }
 
@@ -70,7 +67,6 @@ pub fn write_tree(
     ensures range { λ _. ⌜ InBytes state (partsOf (now (fields .entry)) (now (numbers .entry)) (now (levels .entry)) (now (ancestors .entry))) ⌝ }
 {
     put16(b, COUNT, state.count);
-    put16(b, ROOT, state.root);
     write16(b, FIELDS, fields);
     write64(b, NUMBERS, numbers);
     write_levels(b, LEVELS, levels);

@@ -9,15 +9,16 @@ use Rattle.laws.specs.Test.{pick}
 use Rattle.rows.specs.declared.state.State.{State}
 use Rattle.rows.specs.Row.{Parts}
 use Rattle.set_up.specs.Blank.{setUp, partsAfter}
-use Rattle.growth.specs.Growth.{Outcome as GrowthOutcome, addLeaf, addRoot}
+use Rattle.growth.specs.Growth.{Outcome as GrowthOutcome, addFirst, addLeaf, addOver}
+use Rattle.link.specs.Link.{Outcome as LinkOutcome, linkBy}
 use Rattle.query.specs.Question.{question}
 use Rattle.alike.specs.Alike.{alike}
 use Rattle.inspect.specs.Inspection.{inspection}
-use Rattle.replies.specs.Reply.{Reply, misfit, madeReply, grownReply, questionReply, alikeReply, inspectionReply}
+use Rattle.replies.specs.Reply.{Reply, misfit, madeReply, grownReply, linkReply, questionReply, alikeReply, inspectionReply}
 
--- count and root, as they go in side by side
-abbrev pub stateOf : ℕ → ℕ → State
-stateOf count root = record { count = count; root = root }
+-- the count, as it goes in
+abbrev pub stateOf : ℕ → State
+stateOf count = record { count = count }
 
 -- by whether the out slice has room for n values and no more
 abbrev pub onLength : {A B : Type 0} → ℕ → List A → B → B → B
@@ -32,18 +33,33 @@ abbrev pub outcome : Parts → Reply ℕ → Outcome
 outcome t r = record { replied = r; parts = t }
 
 unfoldable pub setUpCall : Parts → List ℕ → Outcome
-setUpCall t out = onLength 2 out (outcome (partsAfter t) (madeReply out (setUp t))) (outcome t (misfit out))
+setUpCall t out = onLength 1 out (outcome (partsAfter t) (madeReply out (setUp t))) (outcome t (misfit out))
 
 -- a growth's reply and parts
-abbrev pub afterGrowth : List ℕ → GrowthOutcome → Outcome
-afterGrowth out g = outcome (g .parts) (grownReply out (g .grown))
+unfoldable pub growthCall : Parts → List ℕ → GrowthOutcome → Outcome
+growthCall t out g = onLength 3 out (outcome (g .parts) (grownReply out (g .grown))) (outcome t (misfit out))
 
 -- of the scratch only its length counts, here and below
-unfoldable pub leafCall : Parts → List ℕ → ℕ → State → ℕ → ℕ → Outcome
-leafCall t out scratch s parent label = onLength 4 out (afterGrowth out (addLeaf t scratch s parent label)) (outcome t (misfit out))
+abbrev pub firstCall : Parts → List ℕ → ℕ → State → Outcome
+firstCall t out scratch s = growthCall t out (addFirst t scratch s)
 
-unfoldable pub rootCall : Parts → List ℕ → ℕ → State → Outcome
-rootCall t out scratch s = onLength 4 out (afterGrowth out (addRoot t scratch s)) (outcome t (misfit out))
+abbrev pub leafCall : Parts → List ℕ → ℕ → State → ℕ → ℕ → Outcome
+leafCall t out scratch s parent label = growthCall t out (addLeaf t scratch s parent label)
+
+abbrev pub rootCall : Parts → List ℕ → ℕ → State → ℕ → Outcome
+rootCall t out scratch s x = growthCall t out (addOver t scratch s x)
+
+-- a link's reply and parts
+abbrev pub afterLink : Parts → List ℕ → LinkOutcome → Outcome
+afterLink t out l = onLength 1 out (outcome (l .parts) (linkReply out (l .linked))) (outcome t (misfit out))
+
+unfoldable pub linkCall : Parts → List ℕ → ℕ → State → ℕ → ℕ → ℕ → Outcome
+linkCall t out scratch s x v door = afterLink t out (linkBy t scratch s x v door)
+
+-- the outcome of a link; the scratch is unchanged on a refusal, and may hold anything of its length on success
+pub record LinkCall (t : Parts) (out scratch : List ℕ) (s : State) (x v door : ℕ) (after : List ℕ) (o : Outcome) : Type 0 where
+  pub outcome : o ≡ linkCall t out (length scratch) s x v door
+  pub unchanged : 0 < o .replied .number → after ≡ scratch
 
 unfoldable pub questionCall : Parts → List ℤ → State → ℕ → ℕ → Reply ℤ
 questionCall t out s x y = onLength 6 out (questionReply out (question t s x y)) (misfit out)

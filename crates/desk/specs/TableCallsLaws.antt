@@ -20,8 +20,11 @@ use Rattle.rows.specs.declared.refusal.Refusal.the-variants.{Misfit}
 use Rattle.set_up.specs.declared.Made.{Made}
 use Rattle.set_up.specs.Blank.{setUp, partsAfter}
 use Rattle.growth.specs.declared.Grown.{Grown}
-use Rattle.growth.specs.Growth.{addLeaf, addRoot}
+use Rattle.growth.specs.Growth.{Outcome as GrowthOutcome}
 use Rattle.growth.specs.Growth as growth
+use Rattle.link.specs.declared.Linked.{Linked}
+use Rattle.link.specs.declared.Linked.the-variants.{Under, Refused as NotLinked}
+use Rattle.link.specs.Link as link
 use Rattle.query.specs.Outcome.{Outcome as QuestionOutcome}
 use Rattle.query.specs.Question.{question}
 use Rattle.alike.specs.Outcome.{Outcome as AlikeOutcome}
@@ -30,8 +33,8 @@ use Rattle.inspect_laws.specs.Inspects.{inspects}
 use Rattle.inspect.specs.declared.Inspected.{Inspected}
 use Rattle.inspect.specs.declared.Inspected.the-variants.{Passes, Refused}
 use Rattle.inspect.specs.Inspection.{inspection, inspectionIn, Inspection}
-use Rattle.replies.specs.Reply.{Reply, reply, misfit, madeReply, grownReply, questionReply, alikeReply, inspectionReply}
-use Rattle.desk.specs.TableCalls.{onLength, outcome, setUpCall, leafCall, rootCall, questionCall, alikeCall, inspectionCall, InspectionCall}
+use Rattle.replies.specs.Reply.{Reply, reply, misfit, madeReply, grownReply, linkReply, questionReply, alikeReply, inspectionReply}
+use Rattle.desk.specs.TableCalls.{onLength, outcome, setUpCall, growthCall, linkCall, LinkCall, questionCall, alikeCall, inspectionCall, InspectionCall}
 
 -- Any out slice
 
@@ -44,31 +47,39 @@ off-length n out served other e = rw (says-false (says-eqb (length out) n) e)
 -- Calls that change the parts
 
 module _ (t : Parts) (out : List ℕ) {r : ℕ} where
-  pub set-up-misfit : r ≡ 3 → length out ≢ 2 → outcome t (reply r out) ≡ setUpCall t out
+  pub set-up-misfit : r ≡ 3 → length out ≢ 1 → outcome t (reply r out) ≡ setUpCall t out
   unfolding setUpCall
-  set-up-misfit h e = rw h (off-length 2 out _ (outcome t (misfit out)) e)
+  set-up-misfit h e = rw h (off-length 1 out _ (outcome t (misfit out)) e)
 
-  pub leaf-misfit : (scratch : ℕ) (s : State) (parent label : ℕ) → r ≡ 3 → length out ≢ 4 → outcome t (reply r out) ≡ leafCall t out scratch s parent label
-  unfolding leafCall
-  leaf-misfit scratch s parent label h e = rw h (off-length 4 out _ (outcome t (misfit out)) e)
-
-  pub root-misfit : (scratch : ℕ) (s : State) → r ≡ 3 → length out ≢ 4 → outcome t (reply r out) ≡ rootCall t out scratch s
-  unfolding rootCall
-  root-misfit scratch s h e = rw h (off-length 4 out _ (outcome t (misfit out)) e)
+  pub growth-misfit : (o : GrowthOutcome) → r ≡ 3 → length out ≢ 3 → outcome t (reply r out) ≡ growthCall t out o
+  unfolding growthCall
+  growth-misfit o h e = rw h (off-length 3 out _ (outcome t (misfit out)) e)
 
 module _ (t u : Parts) (out after : List ℕ) {r : ℕ} where
-  pub set-up-served : (m : Made) → length out ≡ 2 → m ≡ setUp t → u ≡ partsAfter t → reply r after ≡ madeReply out m → outcome u (reply r after) ≡ setUpCall t out
+  pub set-up-served : (m : Made) → length out ≡ 1 → m ≡ setUp t → u ≡ partsAfter t → reply r after ≡ madeReply out m → outcome u (reply r after) ≡ setUpCall t out
   unfolding setUpCall
-  set-up-served m e a b h = rw (h, a, b) (on-length 2 out (outcome (partsAfter t) (madeReply out (setUp t))) _ e)
+  set-up-served m e a b h = rw (h, a, b) (on-length 1 out (outcome (partsAfter t) (madeReply out (setUp t))) _ e)
 
-  module _ (g : Grown) (scratch : ℕ) (s : State) (e : length out ≡ 4) (h : reply r after ≡ grownReply out g) where
-    pub leaf-served : (parent label : ℕ) → growth.outcome u g ≡ addLeaf t scratch s parent label → outcome u (reply r after) ≡ leafCall t out scratch s parent label
-    unfolding leafCall
-    leaf-served parent label a = rw (h, ← a) (on-length 4 out (outcome u (grownReply out g)) _ e)
+  pub growth-served : (g : Grown) (o : GrowthOutcome) → length out ≡ 3 → reply r after ≡ grownReply out g → growth.outcome u g ≡ o → outcome u (reply r after) ≡ growthCall t out o
+  unfolding growthCall
+  growth-served g o e h a = rw (h, ← a) (on-length 3 out (outcome u (grownReply out g)) _ e)
 
-    pub root-served : growth.outcome u g ≡ addRoot t scratch s → outcome u (reply r after) ≡ rootCall t out scratch s
-    unfolding rootCall
-    root-served a = rw (h, ← a) (on-length 4 out (outcome u (grownReply out g)) _ e)
+module _ (t : Parts) (out scratch : List ℕ) (s : State) (x v door : ℕ) {r : ℕ} where
+  pub link-misfit : r ≡ 3 → length out ≢ 1 → LinkCall t out scratch s x v door scratch (outcome t (reply r out))
+  unfolding linkCall
+  link-misfit h e = record { outcome = rw h (off-length 1 out _ (outcome t (misfit out)) e); unchanged = λ _. refl }
+
+  pub link-served : (u : Parts) (after left : List ℕ) (l : Linked) → length out ≡ 1 → link.LinkCall t u scratch left s x v door l → reply r after ≡ linkReply out l
+      → LinkCall t out scratch s x v door left (outcome u (reply r after))
+  unfolding linkCall
+  link-served u after left l e q h = record {
+    outcome = rw (h, ← q .outcome) (on-length 1 out (outcome u (linkReply out l)) _ e);
+    unchanged = go l q h;
+  }
+    where
+      go : (l : Linked) → link.LinkCall t u scratch left s x v door l → reply r after ≡ linkReply out l → 0 < r → left ≡ scratch
+      go (Under j) q h p = let z : r ≡ 0 = ap (λ (p : Reply ℕ). p .number) h in absurd (omega arith)
+      go (NotLinked n) q h p = q .unchanged n refl
 
 -- inspection refuses only a misfit
 pub inspection-refused : (t : Parts) (cells : ℕ) (s : State) (r : Refusal) → inspection t cells s ≡ Refused r → inspection t cells s ≡ Refused Misfit
@@ -76,8 +87,8 @@ unfolding inspection
 inspection-refused t cells s r = go (capacityOf t)
   where
     -- by whether the scratch fits
-    by : (c : ℕ) (b : Bool) → pick b (Passes (inspects c (tableOf t (s .count) (s .root)))) (Refused Misfit) ≡ Refused r
-        → pick b (Passes (inspects c (tableOf t (s .count) (s .root)))) (Refused Misfit) ≡ Refused Misfit
+    by : (c : ℕ) (b : Bool) → pick b (Passes (inspects c (tableOf t (s .count)))) (Refused Misfit) ≡ Refused r
+        → pick b (Passes (inspects c (tableOf t (s .count)))) (Refused Misfit) ≡ Refused Misfit
     by c true e = let z : _≡_ {A = ℕ} 0 1 = cc in absurd (omega arith)
     by c false e = refl
 

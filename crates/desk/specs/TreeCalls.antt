@@ -26,7 +26,7 @@ pub record Outcome : Type 0 where
 abbrev pub outcome : List ℕ → Reply ℕ → Outcome
 outcome b r = record { replied = r; tree = b }
 
--- bytes hold a tree of this count and root, and these parts
+-- bytes hold a tree of this count, and these parts
 abbrev pub Held : List ℕ → State → Parts → Type 0
 Held b s t = (stateIn b ≡ s) × (partsIn b ≡ t)
 
@@ -35,7 +35,7 @@ abbrev pub madeBytes : List ℕ → Made → Parts → Reply ℕ
 madeBytes b (Empty s) t = reply 0 (encoded s t)
 madeBytes b (NotMade r) t = reply (numberOf r) b
 
--- what bytes hold after a set-up that was served: its count and root, and the parts that it left
+-- what bytes hold after a set-up that was served: its count, and the parts that it left
 abbrev pub MadeHeld : List ℕ → Made → Parts → Type 0
 MadeHeld b (Empty s) t = Held b s t
 MadeHeld b (NotMade r) t = Unit {0}

@@ -1,8 +1,9 @@
-// The table form: the lent parts of a table as they are, count and root by value.
+// The table form: the lent parts of a table as they are, the count by value.
 use replies::reply_answered;
 use replies::reply_compared;
 use replies::reply_grown;
 use replies::reply_inspected;
+use replies::reply_linked;
 use replies::reply_made;
 use rows::refusal::Refusal;
 use rows::refusal::number_of;
@@ -11,9 +12,9 @@ ghost use mathlib.Core.Path.{_≡_};
 ghost use lib.ListN.{length};
 ghost use Rattle.rows.specs.Row.{partsOf};
 ghost use Rattle.replies.specs.Reply.{reply};
-ghost use Rattle.desk.specs.TableCalls.{stateOf, outcome, setUpCall, leafCall, rootCall, questionCall, alikeCall, InspectionCall};
+ghost use Rattle.desk.specs.TableCalls.{stateOf, outcome, setUpCall, firstCall, leafCall, rootCall, LinkCall, questionCall, alikeCall, InspectionCall};
 
-// An empty table. Out: count, root.
+// An empty table. Out: count.
 #[no_mangle]
 pub extern "C" fn nca_table_set_up(
     fields: &mut [u16],
@@ -24,14 +25,35 @@ pub extern "C" fn nca_table_set_up(
 ) -> u16
     ensures { λ r. ⌜ outcome (partsOf (now (fields .exit)) (now (numbers .exit)) (now (levels .exit)) (now (ancestors .exit))) (reply r (now (out .exit))) ≡ setUpCall (partsOf (now (fields .entry)) (now (numbers .entry)) (now (levels .entry)) (now (ancestors .entry))) (now (out .entry)) ⌝ }
 {
-    if out.len() != 2 {
+    if out.len() != 1 {
         return number_of(Refusal::Misfit);
     }
     let made = set_up::set_up(fields, numbers, levels, ancestors);
     reply_made(made, out)
 }
 
-// A new leaf. Out: count, root, node, rows renumbered.
+// A first node, which begins a tree. Out: count, node, rows renumbered.
+#[no_mangle]
+pub extern "C" fn nca_table_add_first(
+    fields: &mut [u16],
+    numbers: &mut [u64],
+    levels: &mut [i32],
+    ancestors: &mut [u16],
+    scratch: &[u16],
+    count: u16,
+    out: &mut [u16],
+) -> u16
+    ensures { λ r. ⌜ outcome (partsOf (now (fields .exit)) (now (numbers .exit)) (now (levels .exit)) (now (ancestors .exit))) (reply r (now (out .exit))) ≡ firstCall (partsOf (now (fields .entry)) (now (numbers .entry)) (now (levels .entry)) (now (ancestors .entry))) (now (out .entry)) (length (now (scratch .entry))) (stateOf count) ⌝ }
+{
+    if out.len() != 3 {
+        return number_of(Refusal::Misfit);
+    }
+    let state = State { count: count };
+    let grown = growth::add_first(fields, numbers, levels, ancestors, scratch, state);
+    reply_grown(grown, out)
+}
+
+// A new leaf. Out: count, node, rows renumbered.
 #[no_mangle]
 pub extern "C" fn nca_table_add_leaf(
     fields: &mut [u16],
@@ -40,20 +62,16 @@ pub extern "C" fn nca_table_add_leaf(
     ancestors: &mut [u16],
     scratch: &[u16],
     count: u16,
-    root: u16,
     parent: u16,
     label: u16,
     out: &mut [u16],
 ) -> u16
-    ensures { λ r. ⌜ outcome (partsOf (now (fields .exit)) (now (numbers .exit)) (now (levels .exit)) (now (ancestors .exit))) (reply r (now (out .exit))) ≡ leafCall (partsOf (now (fields .entry)) (now (numbers .entry)) (now (levels .entry)) (now (ancestors .entry))) (now (out .entry)) (length (now (scratch .entry))) (stateOf count root) parent label ⌝ }
+    ensures { λ r. ⌜ outcome (partsOf (now (fields .exit)) (now (numbers .exit)) (now (levels .exit)) (now (ancestors .exit))) (reply r (now (out .exit))) ≡ leafCall (partsOf (now (fields .entry)) (now (numbers .entry)) (now (levels .entry)) (now (ancestors .entry))) (now (out .entry)) (length (now (scratch .entry))) (stateOf count) parent label ⌝ }
 {
-    if out.len() != 4 {
+    if out.len() != 3 {
         return number_of(Refusal::Misfit);
     }
-    let state = State {
-        count: count,
-        root: root,
-    };
+    let state = State { count: count };
     let grown = growth::add_leaf(
         fields,
         numbers,
@@ -67,7 +85,7 @@ pub extern "C" fn nca_table_add_leaf(
     reply_grown(grown, out)
 }
 
-// A new root. Out: count, root, node, rows renumbered.
+// A new root over x, the root of a tree. Out: count, node, rows renumbered.
 #[no_mangle]
 pub extern "C" fn nca_table_add_root(
     fields: &mut [u16],
@@ -76,20 +94,51 @@ pub extern "C" fn nca_table_add_root(
     ancestors: &mut [u16],
     scratch: &[u16],
     count: u16,
-    root: u16,
+    x: u16,
     out: &mut [u16],
 ) -> u16
-    ensures { λ r. ⌜ outcome (partsOf (now (fields .exit)) (now (numbers .exit)) (now (levels .exit)) (now (ancestors .exit))) (reply r (now (out .exit))) ≡ rootCall (partsOf (now (fields .entry)) (now (numbers .entry)) (now (levels .entry)) (now (ancestors .entry))) (now (out .entry)) (length (now (scratch .entry))) (stateOf count root) ⌝ }
+    ensures { λ r. ⌜ outcome (partsOf (now (fields .exit)) (now (numbers .exit)) (now (levels .exit)) (now (ancestors .exit))) (reply r (now (out .exit))) ≡ rootCall (partsOf (now (fields .entry)) (now (numbers .entry)) (now (levels .entry)) (now (ancestors .entry))) (now (out .entry)) (length (now (scratch .entry))) (stateOf count) x ⌝ }
 {
-    if out.len() != 4 {
+    if out.len() != 3 {
         return number_of(Refusal::Misfit);
     }
-    let state = State {
-        count: count,
-        root: root,
-    };
-    let grown = growth::add_root(fields, numbers, levels, ancestors, scratch, state);
+    let state = State { count: count };
+    let grown = growth::add_root_over(fields, numbers, levels, ancestors, scratch, state, x);
     reply_grown(grown, out)
+}
+
+// The tree of root x under v, a node of another tree; x takes the label. Out: rows renumbered.
+#[no_mangle]
+pub extern "C" fn nca_table_link(
+    fields: &mut [u16],
+    numbers: &mut [u64],
+    levels: &mut [i32],
+    ancestors: &mut [u16],
+    scratch: &mut [u16],
+    count: u16,
+    x: u16,
+    v: u16,
+    label: u16,
+    out: &mut [u32],
+) -> u16
+    ensures { λ r. ⌜ LinkCall (partsOf (now (fields .entry)) (now (numbers .entry)) (now (levels .entry)) (now (ancestors .entry))) (now (out .entry)) (now (scratch .entry)) (stateOf count) x v label (now (scratch .exit)) (outcome (partsOf (now (fields .exit)) (now (numbers .exit)) (now (levels .exit)) (now (ancestors .exit))) (reply r (now (out .exit)))) ⌝ }
+{
+    if out.len() != 1 {
+        return number_of(Refusal::Misfit);
+    }
+    let state = State { count: count };
+    let linked = link::link(
+        fields,
+        numbers,
+        levels,
+        ancestors,
+        scratch,
+        state,
+        x,
+        v,
+        label,
+    );
+    reply_linked(linked, out)
 }
 
 // The characteristic ancestors of x and y. Out: nearest common ancestor, branches towards x and y, distances of x and y, label.
@@ -100,20 +149,16 @@ pub extern "C" fn nca_table_query(
     levels: &[i32],
     ancestors: &[u16],
     count: u16,
-    root: u16,
     x: u16,
     y: u16,
     out: &mut [i32],
 ) -> u16
-    ensures { λ r. ⌜ reply r (now (out .exit)) ≡ questionCall (partsOf (now (fields .entry)) (now (numbers .entry)) (now (levels .entry)) (now (ancestors .entry))) (now (out .entry)) (stateOf count root) x y ⌝ }
+    ensures { λ r. ⌜ reply r (now (out .exit)) ≡ questionCall (partsOf (now (fields .entry)) (now (numbers .entry)) (now (levels .entry)) (now (ancestors .entry))) (now (out .entry)) (stateOf count) x y ⌝ }
 {
     if out.len() != 6 {
         return number_of(Refusal::Misfit);
     }
-    let state = State {
-        count: count,
-        root: root,
-    };
+    let state = State { count: count };
     let answered = query::characteristic_ancestors(fields, numbers, levels, ancestors, state, x, y);
     reply_answered(answered, out)
 }
@@ -126,20 +171,16 @@ pub extern "C" fn nca_table_alike(
     levels: &[i32],
     ancestors: &[u16],
     count: u16,
-    root: u16,
     x: u16,
     y: u16,
     out: &mut [u16],
 ) -> u16
-    ensures { λ r. ⌜ reply r (now (out .exit)) ≡ alikeCall (partsOf (now (fields .entry)) (now (numbers .entry)) (now (levels .entry)) (now (ancestors .entry))) (now (out .entry)) (stateOf count root) x y ⌝ }
+    ensures { λ r. ⌜ reply r (now (out .exit)) ≡ alikeCall (partsOf (now (fields .entry)) (now (numbers .entry)) (now (levels .entry)) (now (ancestors .entry))) (now (out .entry)) (stateOf count) x y ⌝ }
 {
     if out.len() != 1 {
         return number_of(Refusal::Misfit);
     }
-    let state = State {
-        count: count,
-        root: root,
-    };
+    let state = State { count: count };
     let compared = alike::same_labels(fields, numbers, levels, ancestors, state, x, y);
     reply_compared(compared, out)
 }
@@ -153,18 +194,14 @@ pub extern "C" fn nca_table_inspect(
     ancestors: &[u16],
     scratch: &mut [u16],
     count: u16,
-    root: u16,
     out: &mut [u16],
 ) -> u16
-    ensures { λ r. ⌜ InspectionCall (partsOf (now (fields .entry)) (now (numbers .entry)) (now (levels .entry)) (now (ancestors .entry))) (now (out .entry)) (now (scratch .entry)) (stateOf count root) (now (scratch .exit)) (reply r (now (out .exit))) ⌝ }
+    ensures { λ r. ⌜ InspectionCall (partsOf (now (fields .entry)) (now (numbers .entry)) (now (levels .entry)) (now (ancestors .entry))) (now (out .entry)) (now (scratch .entry)) (stateOf count) (now (scratch .exit)) (reply r (now (out .exit))) ⌝ }
 {
     if out.len() != 1 {
         return number_of(Refusal::Misfit);
     }
-    let state = State {
-        count: count,
-        root: root,
-    };
+    let state = State { count: count };
     let inspected = inspect::inspect(fields, numbers, levels, ancestors, scratch, state);
     reply_inspected(inspected, out)
 }

@@ -74,7 +74,7 @@ pub extern "C" fn nca_set_up(tree: &mut [u8]) -> u16
     if tree.len() != BYTES {
         return number_of(Refusal::Misfit);
     }
-    let mut fields = [0u16; 1280];
+    let mut fields = [0u16; 1536];
     let mut numbers = [0u64; 256];
     let mut levels = [0i32; 128];
     let mut ancestors = [0u16; 15616];
@@ -95,7 +95,7 @@ pub extern "C" fn nca_add_leaf(tree: &mut [u8], parent: u16, label: u16, out: &m
     if out.len() != 4 {
         return number_of(Refusal::Misfit);
     }
-    let mut fields = [0u16; 1280];
+    let mut fields = [0u16; 1536];
     let mut numbers = [0u64; 256];
     let mut levels = [0i32; 128];
     let mut ancestors = [0u16; 15616];
@@ -116,7 +116,7 @@ pub extern "C" fn nca_add_leaf(tree: &mut [u8], parent: u16, label: u16, out: &m
     reply_grown(grown, out)
 }
 
-// A new root. Out: node, rows renumbered.
+// A first node in an empty tree, else a new root over the first tree's, as a byte tree keeps to it. Out: node, rows renumbered.
 #[no_mangle]
 pub extern "C" fn nca_add_root(tree: &mut [u8], out: &mut [u8]) -> u16
     ensures answer { λ r. ⌜ outcome (now (tree .exit)) (reply r (now (out .exit))) ≡ rootTree (now (tree .entry)) (now (out .entry)) ⌝ }
@@ -128,7 +128,7 @@ pub extern "C" fn nca_add_root(tree: &mut [u8], out: &mut [u8]) -> u16
     if out.len() != 4 {
         return number_of(Refusal::Misfit);
     }
-    let mut fields = [0u16; 1280];
+    let mut fields = [0u16; 1536];
     let mut numbers = [0u64; 256];
     let mut levels = [0i32; 128];
     let mut ancestors = [0u16; 15616];
@@ -158,7 +158,7 @@ pub extern "C" fn nca_query(tree: &[u8], x: u16, y: u16, out: &mut [u8]) -> u16
     if out.len() != 16 {
         return number_of(Refusal::Misfit);
     }
-    let mut fields = [0u16; 1280];
+    let mut fields = [0u16; 1536];
     let mut numbers = [0u64; 256];
     let mut levels = [0i32; 128];
     let mut ancestors = [0u16; 15616];

@@ -3,15 +3,18 @@
 use mathlib.Core.Path.{_≡_, refl, _∙_}
 use mathlib.Core.Bool.{Bool, true, false}
 use mathlib.Core.List.{List, [], _∷_, _++_}
-use Prim.Native.Nat.{ℕ, zero, suc, _+_}
+use Prim.Native.Nat.{ℕ, zero, suc, _+_, _*_, _≤_}
 use native.Mathlib.Omega.{arith}
+use lib.Dec.{eqb}
 use lib.ListN.{length}
 use Rattle.laws.specs.Test.{pick}
 use Rattle.log.specs.Outcome.{Outcome, end, refusal as refused, field}
 use Rattle.log.specs.Field.{fieldAt}
-use Rattle.sequence.specs.Calls.{Call}
+use Rattle.plain_list.specs.PlainList.{emptyList}
+use Rattle.plain_list.specs.Joinings.{Linkless, end as none-asked, next as also, unlinked}
+use Rattle.sequence.specs.Calls.{Call, toldAll}
 use Rattle.sequence.specs.Run.{start, run, totalIn}
-use Rattle.sequence.specs.SequenceExact.{SequenceExact, sequence-exact}
+use Rattle.sequence.specs.SequenceExact.{SequenceExact, sequence-exact, rowsPerJoining, total-nodes}
 use Rattle.echo.specs.Report.{report}
 use Rattle.echo.specs.Session.{Session, Asked, call, nothing, askedBy, wholeField, stepBy, stepOf}
 use Rattle.echo.specs.Transcript.{readFrom, readLog, rows, lent, scratch, opening}
@@ -91,14 +94,60 @@ module _ (log scratch : List ℕ) where
   leads zero s = leads-none s
   leads (suc n) s = leads-by n s (leads n (stepOf log scratch s .after)) (s .on) refl
 
+-- No field asks for a link
+
+pick-either : (P : Asked → Type 0) (b : Bool) {u v : Asked} → P u → P v → P (pick b u v)
+pick-either P true x y = x
+pick-either P false x y = y
+
+module _ (scratch : List ℕ) (rest : List Call) (l : Linkless (toldAll rest)) where
+  -- what a field asks for, before the rest
+  abbrev Goes : Asked → Type 0
+  Goes a = Linkless (toldAll (callBy a ++ rest))
+
+  asked-linkless : (tag : ℕ) (v : List ℕ) → Goes (askedBy scratch tag v)
+  unfolding toldAll
+  asked-linkless tag v =
+      pick-either Goes (eqb tag 1) (also refl l)
+      (pick-either Goes (eqb tag 2) (also refl l)
+      (pick-either Goes (eqb tag 3) (also refl l)
+      (pick-either Goes (eqb tag 4) (also refl l)
+      l)))
+
+  call-linkless : (o : Outcome) → Linkless (toldAll (callAt scratch o ++ rest))
+  call-linkless end = l
+  call-linkless (refused n next) = l
+  call-linkless (field tag v next) = asked-linkless tag v
+
+module _ (log scratch : List ℕ) where
+  calls-linkless : (n : ℕ) (s : Session) → Linkless (toldAll (callsFrom n log scratch s))
+  unfolding callsFrom toldAll
+  calls-linkless zero s = none-asked
+  calls-linkless (suc n) s =
+      let rest : List Call = callsFrom n log scratch (stepOf log scratch s .after) in
+      go (s .on) (callAt scratch (fieldAt log (s .place)) ++ rest) (call-linkless scratch rest (calls-linkless n (stepOf log scratch s .after)) (fieldAt log (s .place)))
+    where
+      go : (b : Bool) (qs : List Call) → Linkless (toldAll qs) → Linkless (toldAll (pick b qs []))
+      go true qs l = l
+      go false qs l = none-asked
+
 -- what demand 3 says of the calls of a log, and what the program ends with
 pub record TranscriptExact (log : List ℕ) : Type 0 where
   pub calls : SequenceExact rows lent (callsOf log)
   pub table : readLog log scratch opening .last .fast ≡ run (start lent) (callsOf log) .last
   pub total : readLog log scratch opening .last .total ≡ totalIn (run (start lent) (callsOf log) .replies)
+  -- at most 120 rows for each node
+  pub most : readLog log scratch opening .last .total ≤ rowsPerJoining * readLog log scratch opening .last .fast .state .count
 
 pub transcript-exact : (log : List ℕ) → TranscriptExact log
 unfolding readLog callsOf
 transcript-exact log =
     let l = leads log scratch (suc (length log)) opening in
-    record { calls = sequence-exact rows lent lent-fits (callsOf log); table = l .fast; total = l .total ∙ omega arith }
+    let e = sequence-exact rows lent lent-fits (callsOf log) in
+    let t : readLog log scratch opening .last .total ≡ totalIn (run (start lent) (callsOf log) .replies) = l .total ∙ omega arith in
+    record {
+      calls = e;
+      table = l .fast;
+      total = t;
+      most = rw (t, l .fast) (total-nodes e (unlinked rows emptyList (calls-linkless log scratch (suc (length log)) opening)));
+    }

@@ -5,7 +5,7 @@ use Prim.Native.Char.{code}
 use lib.IntN.{ℤ, pos}
 use lib.ListN.{take}
 use Rattle.rows.specs.Row.{levelAt}
-use Rattle.sequence.specs.Calls.{Call, leaf, root, question, alike, inspection, Reply, refused, grown, answered, same, inspected}
+use Rattle.sequence.specs.Calls.{Call, first, leaf, root, rootOver, link, question, alike, inspection, Reply, refused, grown, linked, answered, same, inspected}
 use Rattle.sequence.specs.Run.{Turn}
 use Rattle.echo.specs.declared.reply.Shown.{Shown}
 
@@ -28,17 +28,24 @@ refusal n = record { letter = code "R"; values = pos n ∷ [] }
 abbrev pub printed : ℕ → List ℤ → Reply → Printed
 printed letter levels (refused n) = refusal n
 printed letter levels (grown n rows) = record { letter = letter; values = pos n ∷ levelAt levels n ∷ pos rows ∷ [] }
+printed letter levels (linked rows) = record { letter = letter; values = pos rows ∷ [] }
 printed letter levels (answered a u v i j l) = record { letter = letter; values = pos a ∷ pos u ∷ pos v ∷ i ∷ j ∷ pos l ∷ [] }
 printed letter levels (same b) = record { letter = letter; values = pos b ∷ [] }
 printed letter levels (inspected b) = record { letter = letter; values = [] }
 
--- the letters; no field asks for inspection
+-- the letters; no field asks for the other calls
+abbrev pub unasked : ℕ
+unasked = code "-"
+
 abbrev pub letterOf : Call → ℕ
+letterOf (first s) = unasked
 letterOf (leaf v l s) = code "L"
 letterOf (root s) = code "T"
+letterOf (rootOver x s) = unasked
+letterOf (link x v door s) = unasked
 letterOf (question x y) = questionLetter
 letterOf (alike x y) = alikeLetter
-letterOf (inspection s) = code "I"
+letterOf (inspection s) = unasked
 
 -- what a call prints, by its turn
 abbrev pub printedBy : Call → Turn → Printed

@@ -19,7 +19,7 @@ reportBy q t = record { printed = printedBy q t; rows = rowsIn (t .reply); after
 unfoldable pub report : Fast → Call → Report
 report f q = reportBy q (step f q)
 
--- the lent parts with their count and root
+-- the lent parts with their count
 abbrev pub fastOf : Parts → State → Fast
 fastOf t s = record { parts = t; state = s }
 

@@ -6,7 +6,6 @@ use Prim.Native.Nat.{ℕ, _*_}
 use native.Mathlib.Omega.{arith}
 use lib.IntN.{pos}
 use lib.ListN.{length-replicate}
-use Rattle.tree_laws.specs.Ancestor.{none}
 use Rattle.lines.specs.declared.Text.{Text}
 use Rattle.lines.specs.Text.{textOf}
 use Rattle.lines.specs.Line.{headerLine, endLine}
@@ -38,7 +37,7 @@ lent-fits =
     }
 
 abbrev none-yet : State
-none-yet = record { count = 0; root = none }
+none-yet = record { count = 0 }
 
 lent-empty : setUp lent ≡ Empty none-yet
 lent-empty = set-up-served lent rows lent-fits

@@ -16,7 +16,7 @@ ghost use Rattle.sequence.specs.Run.{grownReply, rowsIn, stateAfter};
 ghost use Rattle.echo.specs.Printed.{printed, printedOf};
 ghost use Rattle.echo.specs.Report.{fastOf, report, reportOf};
 
-// Count and root after the call, the rows renumbered, and what is printed.
+// The count after the call, the rows renumbered, and what is printed.
 pub struct Served {
     pub state: State,
     pub rows: u16,

@@ -59,7 +59,7 @@ pub fn transcribe(log: &[u8], out: &mut [u8]) -> usize
     ensures text { λ r. ⌜ take r (now (out .exit)) ≡ transcript (now (log .entry)) ⌝ }
     ensures counts { λ r. ⌜ Counts r (now (out .exit)) ⌝ }
 {
-    let mut fields = [0u16; 1280];
+    let mut fields = [0u16; 1408];
     let mut numbers = [0u64; 256];
     let mut levels = [0i32; 128];
     let mut ancestors = [0u16; 15616];

@@ -17,7 +17,7 @@ ghost use Rattle.echo.specs.Bounds.{Grows, Small};
 ghost use Rattle.echo.specs.Report.{reportOf};
 ghost use Rattle.echo.specs.Session.{refusedField, reported, sessionOf, silent, stepOf, turnOf};
 
-// How far the log is read, the ordinal of the next field, the rows renumbered so far, count and root, and whether the reading goes on.
+// How far the log is read, the ordinal of the next field, the rows renumbered so far, the count, and whether the reading goes on.
 pub struct Reading {
     pub place: usize,
     pub ordinal: u32,

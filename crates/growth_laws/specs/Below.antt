@@ -1,19 +1,19 @@
 -- Rows that joined trees as leaves, one after another: a new leaf, or the rows of a linked tree. The trees above them keep their lines, so rule 1 holds
 -- again, and the plain parent of a joined row is its stored one.
-use mathlib.Core.Path.{_≡_, refl, ap, sym, _∙_}
+use mathlib.Core.Path.{_≡_, ap, sym, _∙_}
 use mathlib.Core.Logic.{_⊎_, inl, inr, _≢_}
 use Prim.Native.Nat.{ℕ, _≤_, _<_}
 use native.Mathlib.Omega.{arith}
 use lib.IntN.{pos, _+ℤ_}
-use Rattle.tree_laws.specs.Ancestor.{none, Anc, Forest}
+use Rattle.tree_laws.specs.Ancestor.{none, Forest}
 use Rattle.tree_laws.specs.AncestorLaws.{anc-in}
 use Rattle.tree_laws.specs.Reroot.{kept, plainParent}
 use Rattle.tree_laws.specs.RerootLaws.{plain-is}
-use Rattle.tree_laws.specs.Top.{First, first-one, top-first}
+use Rattle.tree_laws.specs.Top.{top-first}
 use Rattle.rows.specs.Capacity.{capacityLimit}
 use Rattle.rows.specs.Table.{Table, parent, depth, label, level}
 use Rattle.rows.specs.PlainTree.{first, root, plain}
-use Rattle.rows.specs.StoredTree.{Rootd, OnLine, Level, labelLimit}
+use Rattle.rows.specs.StoredTree.{Rooted, OnLine, Level, labelLimit}
 use Rattle.rows.specs.Rules.{Recorded, Rules, Numbered, numbered}
 use Rattle.growth_laws.specs.Older.{Older, older-anc, anc-to, anc-from, first-to, first-from, top-same, plain-same}
 use Rattle.growth_laws.specs.Trees.{own-trees, stored}
@@ -54,8 +54,8 @@ module _ {capacity : ℕ} {t d : Table} {P : ℕ → Type 0} (r : Rules capacity
   root-kept : {f : ℕ} → P f → parent d f ≡ none → P (d .root f)
   root-kept {f} p e = let z = first-was p e in rw (k .sameRoot f p z) (k .rootKept f p z)
 
-  rootd : (f : ℕ) → f < d .count → parent d f ≡ none → Rootd d f
-  rootd f l e =
+  rooted : (f : ℕ) → f < d .count → parent d f ≡ none → Rooted d f
+  rooted f l e =
       let p = first-old l e in
       let z = first-was p e in
       let q = r .one .root f (old p) z in
@@ -117,7 +117,7 @@ module _ {capacity : ℕ} {t d : Table} {P : ℕ → Type 0} (r : Rules capacity
     inside = s .inside;
     depth = s .depth;
     children = s .children;
-    root = rootd;
+    root = rooted;
     level = levels;
     labelMost = λ x l. elim (k .either x l) [ inl p ↦ rw (k .sameLabel x p) (r .one .labelMost x (old p)) | inr q ↦ q .1 .labelled ];
     labelRoot = λ f l e.

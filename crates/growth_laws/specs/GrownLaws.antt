@@ -1,5 +1,5 @@
 -- What a growth and a first node leave of the old rows, and their numbering.
-use mathlib.Core.Path.{_≡_, refl, ap, sym, _∙_}
+use mathlib.Core.Path.{_≡_, refl, _∙_}
 use mathlib.Core.Bool.{false}
 use mathlib.Core.Logic.{_⊎_, inl, inr, _≢_}
 use Prim.Native.Nat.{ℕ, suc, _+_, _*_, _≤_, _<_}
@@ -7,10 +7,10 @@ use native.Mathlib.Decide.{decLt}
 use native.Mathlib.Omega.{arith}
 use lib.Dec.{eqb}
 use Rattle.laws.specs.Test.{says-true, says-false, says-eqb}
-use Rattle.tree_laws.specs.Ancestor.{none, Forest}
+use Rattle.tree_laws.specs.Ancestor.{none}
 use Rattle.tree_laws.specs.AncestorLaws.{row-some}
 use Rattle.tree_laws.specs.Join.{Old}
-use Rattle.rows.specs.Table.{Table, parent, depth, label, level}
+use Rattle.rows.specs.Table.{Table, parent, label, level}
 use Rattle.rows.specs.Rules.{Numbered}
 use Rattle.growth_laws.specs.Growth.{Growth, parentOf, labelOf, levelOf}
 use Rattle.growth_laws.specs.Joined.{Planted}

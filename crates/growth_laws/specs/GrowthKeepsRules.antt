@@ -1,28 +1,27 @@
 -- Growth and first nodes keep the rules of inspection, and their plain trees are one step of the plain list on.
 use mathlib.Core.Path.{_≡_, refl, ap, sym, _∙_}
 use mathlib.Core.Logic.{_⊎_, inl, inr, _≢_}
-use Prim.Native.Nat.{ℕ, suc, _+_, _*_, _≤_, _<_}
+use Prim.Native.Nat.{ℕ, _≤_, _<_}
 use native.Mathlib.Decide.{ℕ-discrete}
 use native.Mathlib.Omega.{arith}
 use lib.Dec.{eqb}
-use lib.IntN.{pos, _+ℤ_, _-ℤ_}
 use Rattle.laws.specs.Test.{pick, says-true, says-false, says-eqb}
 use Rattle.tree_laws.specs.Ancestor.{none, Anc, here, there, Forest}
-use Rattle.tree_laws.specs.AncestorLaws.{trans, cases, anc-in, row-some}
+use Rattle.tree_laws.specs.AncestorLaws.{cases, anc-in}
 use Rattle.tree_laws.specs.Reroot.{PlainParent, root as top, turned, kept, plainParent}
 use Rattle.tree_laws.specs.RerootLaws.{plain-is, plain-parent}
-use Rattle.tree_laws.specs.Top.{First, first-one, top-first, top-is}
+use Rattle.tree_laws.specs.Top.{First, top-first, top-is}
 use Rattle.rows.specs.Capacity.{capacityLimit}
 use Rattle.rows.specs.Table.{Table, parent, depth, label, level}
 use Rattle.rows.specs.PlainTree.{first, root as rootIn, plain}
-use Rattle.rows.specs.StoredTree.{Rootd, OnLine, Level, labelLimit}
-use Rattle.rows.specs.Rules.{Recorded, Rules, Numbered, numbered, rules-of}
-use Rattle.growth_laws.specs.Growth.{Growth, leaf, root, Named, named-leaf, named-root, parentOf, labelOf, levelOf, rootAfter}
+use Rattle.rows.specs.StoredTree.{Rooted, OnLine, Level, labelLimit}
+use Rattle.rows.specs.Rules.{Rules, Numbered, numbered, rules-of}
+use Rattle.growth_laws.specs.Growth.{Growth, leaf, root, Named, named-leaf, named-root}
 use Rattle.growth_laws.specs.Grown.{Grown, Started}
 use Rattle.growth_laws.specs.GrownLaws.{old-or-new, extended-numbered, extended-parent, extended-lone, extended-older}
-use Rattle.growth_laws.specs.GrownLaws.{growth-numbered, growth-count, parent-old, level-old, label-old, parent-new, label-new, level-new, growth-older, over-in, new-some}
+use Rattle.growth_laws.specs.GrownLaws.{growth-numbered, growth-count, parent-old, level-old, label-old, parent-new, label-new, level-new, growth-older, new-some}
 use Rattle.growth_laws.specs.PlainStep.{PlainStep, PlainStart}
-use Rattle.growth_laws.specs.Below.{JoinedLeaf, Grows, grows-recorded, plain-old, plain-joined}
+use Rattle.growth_laws.specs.Below.{Grows, grows-recorded, plain-old, plain-joined}
 use Rattle.growth_laws.specs.Older.{Older, anc-to, anc-from, first-to, first-from, top-same, plain-same}
 use Rattle.growth_laws.specs.Trees.{own-trees, stored}
 
@@ -127,8 +126,8 @@ module _ {capacity : ℕ} {t d : Table} {q h : ℕ} (r : Rules capacity t) (smal
   first-old : {x : ℕ} → x < d .count → parent d x ≡ none → x < t .count
   first-old {x} b e = elim (old-or-new (growth-count numq k) x b) [ inl o ↦ o | inr z ↦ absurd (new-some numq k (rw z at e)) ]
 
-  rootd : (x : ℕ) → x < d .count → parent d x ≡ none → Rootd d x
-  rootd x b e =
+  rooted : (x : ℕ) → x < d .count → parent d x ≡ none → Rooted d x
+  rooted x b e =
       let o = first-old b e in
       elim (ℕ-discrete x f) [
         | yes z ↦ rw z record { inUse = rw root-here new-in; over = rw root-here (first-new .over) }
@@ -186,7 +185,7 @@ module _ {capacity : ℕ} {t d : Table} {q h : ℕ} (r : Rules capacity t) (smal
     inside = growth-numbered numq k .inside;
     depth = growth-numbered numq k .depth;
     children = growth-numbered numq k .children;
-    root = rootd;
+    root = rooted;
     level = levels;
     labelMost = λ x b. elim (old-or-new (growth-count numq k) x b) [
       | inl o ↦ rw (label-old numq k x o) (r .one .labelMost x o)

@@ -29,8 +29,8 @@ abbrev pub isRecordedRoot : Table → ℕ → ℕ → Bool
 isRecordedRoot t f r = ltb r (t .count) && (eqb (first t r) f && eqb (label t r) 0)
 
 -- the first row of a tree records such a row; what other rows record says nothing
-abbrev pub isRootd : Table → ℕ → Bool
-isRootd t f = not (eqb (parent t f) none) || isRecordedRoot t f (t .root f)
+abbrev pub isRooted : Table → ℕ → Bool
+isRooted t f = not (eqb (parent t f) none) || isRecordedRoot t f (t .root f)
 
 -- x is met on the way up from the root of its tree
 abbrev pub isOnLine : Table → ℕ → Bool
@@ -75,7 +75,7 @@ abbrev pub areParents : Table → Bool
 areParents t = allTo (λ x. isParent t x && isDepth t x) (t .count)
 
 abbrev pub areRoots : Table → Bool
-areRoots t = allTo (isRootd t) (t .count)
+areRoots t = allTo (isRooted t) (t .count)
 
 abbrev pub areLevels : Table → Bool
 areLevels t = allTo (λ x. isLevelOn t (isOnLine t x) x && isLabel t x) (t .count)

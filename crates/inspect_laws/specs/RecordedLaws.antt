@@ -18,10 +18,10 @@ use Rattle.tree_laws.specs.Top.{top-first, top-is, first-one}
 use Rattle.rows.specs.StateLaws.{says-standing}
 use Rattle.rows.specs.Table.{Table, parent, depth, label, level}
 use Rattle.rows.specs.PlainTree.{first, root}
-use Rattle.rows.specs.StoredTree.{Child, ChildLinks, Rootd, OnLine, Level, labelLimit, Depth}
+use Rattle.rows.specs.StoredTree.{Child, ChildLinks, Rooted, OnLine, Level, labelLimit, Depth}
 use Rattle.rows.specs.Rules.{Each, Recorded}
 use Rattle.inspect_laws.specs.Choice.{says-pick, says-unless, says-if}
-use Rattle.inspect_laws.specs.Recorded.{stateOf, isParent, isDepth, isRecordedRoot, isRootd, isOnLine, eqZ, levelBelow, isLevelOn, isLabel, chainOf, isLinked, rowsMet, areParents, areRoots, areLevels, areLinks, isRecorded}
+use Rattle.inspect_laws.specs.Recorded.{stateOf, isParent, isDepth, isRooted, isOnLine, eqZ, levelBelow, isLevelOn, isLabel, chainOf, isLinked, rowsMet, areParents, areRoots, areLevels, areLinks, isRecorded}
 
 -- Parents and depths ---------------------------------------------------------
 
@@ -50,13 +50,13 @@ stored-depths t small e = depths small (says-get (says-parents t) e)
 
 -- what the first row f of a tree records
 abbrev pub RecordedRoot : Table → ℕ → Type 0
-RecordedRoot t f = parent t f ≡ none → Rootd t f × (label t (t .root f) ≡ 0)
+RecordedRoot t f = parent t f ≡ none → Rooted t f × (label t (t .root f) ≡ 0)
 
 module _ (t : Table) (forest : Forest (parent t) (depth t) (t .count)) where
   in-tree : {r : ℕ} (f : ℕ) → parent t f ≡ none → r < t .count → Says (Anc (parent t) f r) (eqb (first t r) f)
   in-tree {r} f e l = says-map (λ z. rw z at (top-first forest r l .over)) (λ p. top-is forest l record { over = p; top = e }) (says-eqb (first t r) f)
 
-  says-recorded-root : (f : ℕ) → Says (RecordedRoot t f) (isRootd t f)
+  says-recorded-root : (f : ℕ) → Says (RecordedRoot t f) (isRooted t f)
   says-recorded-root f = says-if (says-eqb (parent t f) none) (λ e. says-map
       (λ h. (record { inUse = h .0; over = h .1 .0 }, h .1 .1))
       (λ s. (s .0 .inUse, (s .0 .over, s .1)))
@@ -64,7 +64,7 @@ module _ (t : Table) (forest : Forest (parent t) (depth t) (t .count)) where
       says-and (in-tree {r = t .root f} f e l) (λ _. says-eqb (label t (t .root f)) 0))))
 
   pub says-roots : Says (Each t (RecordedRoot t)) (areRoots t)
-  says-roots = says-all (isRootd t) (t .count) (λ f l. says-recorded-root f)
+  says-roots = says-all (isRooted t) (t .count) (λ f l. says-recorded-root f)
 
   -- the line of each tree
   pub says-line : Each t (RecordedRoot t) → Each t (λ x. Says (OnLine t x) (isOnLine t x))

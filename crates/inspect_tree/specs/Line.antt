@@ -14,7 +14,7 @@ use Rattle.laws.specs.Test.{says-eqb, says-true, says-false}
 use Rattle.tree_laws.specs.Ancestor.{none, ancestorWithin, isAncestor}
 use Rattle.tree_laws.specs.Top.{topWithin, topOf}
 use Rattle.rows.specs.Table.{Table, parent, depth}
-use Rattle.inspect_laws.specs.Recorded.{isRecordedRoot, isRootd, areRoots, isLevelOn, isLabel}
+use Rattle.inspect_laws.specs.Recorded.{isRecordedRoot, isRooted, areRoots, isLevelOn, isLabel}
 use Rattle.inspect_tree.specs.Cells.{read-put, read-fill}
 
 -- what is met on the way up from the root
@@ -35,7 +35,7 @@ isOnLines t (suc m) x = isOnLines t m x || isOnLineOf t m x
 
 -- the answer on the root of one tree, and what the scratch holds then
 pub record TreeMarked (t : Table) (f : ℕ) (before s : List ℕ) (r : Bool) : Type 0 where
-  pub answer : r ≡ isRootd t f
+  pub answer : r ≡ isRooted t f
   pub marks : r ≡ true → (x : ℕ) → x < length s → eqb (getD s x 0) 1 ≡ (eqb (getD before x 0) 1 || isOnLineOf t f x)
 
 -- the cell of each row holds 1 exactly when the row is met from the root of a first row below m

@@ -6,8 +6,8 @@ use native.Mathlib.Numerals.{add-one}
 use native.Mathlib.Omega.{arith}
 use lib.IntN.{ℤ, pos, sucℤ, predℤ, _+ℤ_, _-ℤ_}
 use lib.IntN.{suc-pred, +ℤ-sucℤ, predℤ-+ℤ, +ℤ-idr, -ℤ-one, +ℤ-assoc, +ℤ-comm, +ℤ-negℤ-cancel, -ℤ-+ℤ-cancel}
-use Rattle.tree_laws.specs.Ancestor.{none, Anc, here, there, Forest}
-use Rattle.tree_laws.specs.AncestorLaws.{trans, cases, climb, anc-in, decAnc}
+use Rattle.tree_laws.specs.Ancestor.{none, here, there, Forest}
+use Rattle.tree_laws.specs.AncestorLaws.{trans, cases, climb}
 use Rattle.tree_laws.specs.Reroot.{PlainParent, root as top, turned, kept}
 use Rattle.tree_laws.specs.RerootLaws.{plain-parent, plain-kindred, plain-inside, plain-root-over}
 use Rattle.tree_laws.specs.Reroot.{plainParent}
@@ -21,7 +21,7 @@ use Rattle.tree_laws.specs.Top.{kindred-top}
 use Rattle.tree_laws.specs.Depth.{Steps, arrived, step}
 use Rattle.rows.specs.Rules.{Rules, numbered}
 use Rattle.rows.specs.PlainTree.{root}
-use Rattle.numbering.specs.Numbered.{shape, storedTree, InTree, stored-kindred, in-tree, first-is, first-in, anc-tree}
+use Rattle.numbering.specs.Numbered.{shape, storedTree, InTree, stored-kindred, in-tree, first-is, anc-tree}
 use Rattle.numbering.specs.Lines.{root-in, line-over, over-line, decLine}
 
 -- how far the level of row x lies above minus its depth: not at all exactly on the line

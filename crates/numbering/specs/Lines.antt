@@ -1,15 +1,14 @@
 -- The line of each tree, from its first row to its root.
-use mathlib.Core.Path.{_≡_}
 use Prim.Native.Nat.{ℕ, _≤_, _<_}
-use Rattle.tree_laws.specs.Ancestor.{none, Anc}
-use Rattle.tree_laws.specs.AncestorLaws.{decAnc, trans}
+use Rattle.tree_laws.specs.Ancestor.{Anc}
+use Rattle.tree_laws.specs.AncestorLaws.{decAnc}
 use Rattle.tree_laws.specs.Top.{first-one}
 use Rattle.rows.specs.Capacity.{capacityLimit}
 use Rattle.rows.specs.PlainTree.{first, root}
 use Rattle.rows.specs.Table.{Table, parent}
 use Rattle.rows.specs.StoredTree.{OnLine}
 use Rattle.rows.specs.Rules.{Rules, numbered}
-use Rattle.numbering.specs.Numbered.{storedTree, InTree, in-tree, first-in, anc-tree}
+use Rattle.numbering.specs.Numbered.{storedTree, InTree, in-tree, first-in}
 
 module _ {capacity : ℕ} {t : Table} (r : Rules capacity t) (fits : capacity ≤ capacityLimit) where
   -- the root of a tree is one of its rows

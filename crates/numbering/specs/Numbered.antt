@@ -1,7 +1,6 @@
 -- The two trees of a numbered table, and the rows of one of its trees. No labels, levels or roots.
 use mathlib.Core.Path.{_≡_, refl, sym}
-use mathlib.Core.Logic.{inl, inr, _≢_}
-use Prim.Native.Nat.{ℕ, _*_, _^_, _≤_, _<_}
+use Prim.Native.Nat.{ℕ, _<_}
 use native.Mathlib.Decide.{ℕ-discrete}
 use native.Mathlib.Omega.{arith}
 use Rattle.tree_laws.specs.Ancestor.{none, Anc, Forest}

@@ -2,7 +2,9 @@
 use rows::layout::NONE;
 use rows::tree::root_of;
 use rows::tree::tree_of;
+ghost use mathlib.Core.Bool.{_&&_};
 ghost use mathlib.Core.Path.{_≡_};
+ghost use lib.Dec.{ltb};
 ghost use Rattle.query.specs.Sought.{soughtIn};
 
 // The count of a table, and the root of one of its trees.
@@ -16,6 +18,13 @@ pub enum Sought {
     Root(u16),
     Other,
     Lost,
+}
+
+// Both nodes are below the count. One test and not two: the fewer branches stand before the answer, the sooner the compiler makes it in place.
+pub fn are_known(count: u16, x: u16, y: u16) -> bool
+    ensures { λ r. ⌜ r ≡ (ltb x count && ltb y count) ⌝ }
+{
+    (x < count) & (y < count)
 }
 
 // The root of the tree that x and y share.

@@ -9,7 +9,7 @@ use Rattle.bytes_tree.specs.Bytes.{bytes}
 use Rattle.bytes_tree.specs.Sign.{unsigned}
 use Rattle.replies.specs.Reply.{Reply, reply}
 
--- the new node, and the rows renumbered; count and root stand in the tree
+-- the new node, and the rows renumbered; the count stands in the tree
 abbrev pub grownBytes : List ℕ → Grown → Reply ℕ
 grownBytes out (Node g) = reply 0 (bytes 2 (g .node) ++ bytes 2 (g .rows))
 grownBytes out (Refused r) = reply (numberOf r) out

@@ -9,6 +9,8 @@ use Rattle.set_up.specs.declared.Made.{Made}
 use Rattle.set_up.specs.declared.Made.the-variants.{Empty, Refused as NotMade}
 use Rattle.growth.specs.declared.Grown.{Grown}
 use Rattle.growth.specs.declared.Grown.the-variants.{Node, Refused as NotGrown}
+use Rattle.link.specs.declared.Linked.{Linked}
+use Rattle.link.specs.declared.Linked.the-variants.{Under, Refused as NotLinked}
 use Rattle.query.specs.Outcome.{Outcome as QuestionOutcome, refusal as noAnswer, answer}
 use Rattle.alike.specs.Outcome.{Outcome as AlikeOutcome, refusal as noValue, value}
 use Rattle.inspect.specs.declared.Inspected.{Inspected}
@@ -25,15 +27,20 @@ reply n l = record { number = n; out = l }
 abbrev pub misfit : {A : Type 0} → List A → Reply A
 misfit out = reply (numberOf Misfit) out
 
--- count and root
+-- the count
 abbrev pub madeReply : List ℕ → Made → Reply ℕ
-madeReply out (Empty s) = reply 0 (s .count ∷ s .root ∷ [])
+madeReply out (Empty s) = reply 0 (s .count ∷ [])
 madeReply out (NotMade r) = reply (numberOf r) out
 
--- count, root, the new node, and the rows renumbered
+-- count, the new node, and the rows renumbered
 abbrev pub grownReply : List ℕ → Grown → Reply ℕ
-grownReply out (Node g) = reply 0 (g .state .count ∷ g .state .root ∷ g .node ∷ g .rows ∷ [])
+grownReply out (Node g) = reply 0 (g .state .count ∷ g .node ∷ g .rows ∷ [])
 grownReply out (NotGrown r) = reply (numberOf r) out
+
+-- the rows renumbered
+abbrev pub linkReply : List ℕ → Linked → Reply ℕ
+linkReply out (Under l) = reply 0 (l .rows ∷ [])
+linkReply out (NotLinked r) = reply (numberOf r) out
 
 -- the nearest common ancestor, the branches towards x and y, their distances, and the label
 abbrev pub questionReply : List ℤ → QuestionOutcome → Reply ℤ

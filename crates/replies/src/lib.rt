@@ -4,6 +4,7 @@ pub mod bytes;
 use alike::Compared;
 use growth::Grown;
 use inspect::Inspected;
+use link::Linked;
 use query::Answered;
 use rows::refusal::number_of;
 use set_up::Made;
@@ -14,7 +15,7 @@ ghost use lib.ListN.{length};
 ghost use Rattle.laws.specs.Test.{bit};
 ghost use Rattle.query.specs.Outcome.{outcomeOf as answerOf};
 ghost use Rattle.alike.specs.Outcome.{outcomeOf as comparisonOf};
-ghost use Rattle.replies.specs.Reply.{reply, madeReply, grownReply, questionReply, alikeReply, inspectionReply};
+ghost use Rattle.replies.specs.Reply.{reply, madeReply, grownReply, linkReply, questionReply, alikeReply, inspectionReply};
 
 fn signed(x: u16) -> i32
     ensures { λ r. ⌜ r ≡ pos x ⌝ }
@@ -28,22 +29,27 @@ fn bit_of(b: bool) -> u16
     if b { 1 } else { 0 }
 }
 
-fn put_two(out: &mut [u16], a: u16, b: u16)
-    requires { ⌜ length (now out) ≡ 2 ⌝ }
-    ensures { λ _. ⌜ now (out .exit) ≡ a ∷ b ∷ [] ⌝ }
+fn put_one(out: &mut [u16], a: u16)
+    requires { ⌜ length (now out) ≡ 1 ⌝ }
+    ensures { λ _. ⌜ now (out .exit) ≡ a ∷ [] ⌝ }
 {
     out[0] = a;
-    out[1] = b;
 }
 
-fn put_four(out: &mut [u16], a: u16, b: u16, c: u16, d: u16)
-    requires { ⌜ length (now out) ≡ 4 ⌝ }
-    ensures { λ _. ⌜ now (out .exit) ≡ a ∷ b ∷ c ∷ d ∷ [] ⌝ }
+fn put_wide(out: &mut [u32], a: u32)
+    requires { ⌜ length (now out) ≡ 1 ⌝ }
+    ensures { λ _. ⌜ now (out .exit) ≡ a ∷ [] ⌝ }
+{
+    out[0] = a;
+}
+
+fn put_three(out: &mut [u16], a: u16, b: u16, c: u16)
+    requires { ⌜ length (now out) ≡ 3 ⌝ }
+    ensures { λ _. ⌜ now (out .exit) ≡ a ∷ b ∷ c ∷ [] ⌝ }
 {
     out[0] = a;
     out[1] = b;
     out[2] = c;
-    out[3] = d;
 }
 
 fn put_six(out: &mut [i32], a: i32, b: i32, c: i32, d: i32, e: i32, f: i32)
@@ -58,20 +64,13 @@ fn put_six(out: &mut [i32], a: i32, b: i32, c: i32, d: i32, e: i32, f: i32)
     out[5] = f;
 }
 
-fn put_one(out: &mut [u16], a: u16)
-    requires { ⌜ length (now out) ≡ 1 ⌝ }
-    ensures { λ _. ⌜ now (out .exit) ≡ a ∷ [] ⌝ }
-{
-    out[0] = a;
-}
-
 pub fn reply_made(made: Made, out: &mut [u16]) -> u16
-    requires { ⌜ length (now out) ≡ 2 ⌝ }
+    requires { ⌜ length (now out) ≡ 1 ⌝ }
     ensures { λ r. ⌜ reply r (now (out .exit)) ≡ madeReply (now (out .entry)) made ⌝ }
 {
     match made {
         Made::Empty(s) => {
-            put_two(out, s.count, s.root);
+            put_one(out, s.count);
             0
         }
         Made::Refused(r) => number_of(r),
@@ -79,16 +78,29 @@ pub fn reply_made(made: Made, out: &mut [u16]) -> u16
 }
 
 pub fn reply_grown(grown: Grown, out: &mut [u16]) -> u16
-    requires { ⌜ length (now out) ≡ 4 ⌝ }
+    requires { ⌜ length (now out) ≡ 3 ⌝ }
     ensures { λ r. ⌜ reply r (now (out .exit)) ≡ grownReply (now (out .entry)) grown ⌝ }
 {
     match grown {
         Grown::Node(g) => {
             let s = g.state;
-            put_four(out, s.count, s.root, g.node, g.rows);
+            put_three(out, s.count, g.node, g.rows);
             0
         }
         Grown::Refused(r) => number_of(r),
+    }
+}
+
+pub fn reply_linked(linked: Linked, out: &mut [u32]) -> u16
+    requires { ⌜ length (now out) ≡ 1 ⌝ }
+    ensures { λ r. ⌜ reply r (now (out .exit)) ≡ linkReply (now (out .entry)) linked ⌝ }
+{
+    match linked {
+        Linked::Under(l) => {
+            put_wide(out, l.rows);
+            0
+        }
+        Linked::Refused(r) => number_of(r),
     }
 }
 

@@ -36,8 +36,9 @@ labelPlace = 9
 abbrev pub rootPlace : ℕ
 rootPlace = 10
 
+-- one place is not used: a row of twelve is addressed by one scaled index
 abbrev pub fieldStride : ℕ
-fieldStride = 11
+fieldStride = 12
 
 -- 64-bit numbers of a row in `numbers`
 abbrev pub startPlace : ℕ

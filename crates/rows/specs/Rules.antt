@@ -6,7 +6,7 @@ use native.Mathlib.Omega.{arith}
 use Rattle.tree_laws.specs.Ancestor.{none}
 use Rattle.rows.specs.Table.{Table, parent, upper, start, nextFree, label}
 use Rattle.rows.specs.Capacity.{capacityLimit}
-use Rattle.rows.specs.StoredTree.{Depth, Level, ChildLinks, Rootd, labelLimit}
+use Rattle.rows.specs.StoredTree.{Depth, Level, ChildLinks, Rooted, labelLimit}
 use Rattle.rows.specs.CompressedTree.{PathLink, Upper, Size, SetSize, SmallChild}
 use Rattle.rows.specs.Spans.{q, Apart, Inside, Dense}
 use Rattle.rows.specs.Entries.{Entries}
@@ -21,7 +21,7 @@ pub record Recorded (capacity : ℕ) (t : Table) : Type 0 where
   pub inside : Each t (λ x. parent t x ≢ none → parent t x < t .count)
   pub depth : Each t (Depth t)
   pub children : Each t (ChildLinks t)
-  pub root : Each t (λ f. parent t f ≡ none → Rootd t f)
+  pub root : Each t (λ f. parent t f ≡ none → Rooted t f)
   pub level : Each t (Level t)
   pub labelMost : Each t (λ x. label t x ≤ labelLimit)
   pub labelRoot : Each t (λ f. parent t f ≡ none → label t (t .root f) ≡ 0)

@@ -2,7 +2,7 @@
 use mathlib.Core.Path.{_≡_}
 use mathlib.Core.Logic.{_≢_}
 use mathlib.Core.List.{List}
-use Prim.Native.Nat.{ℕ, _+_, _≤_, _<_}
+use Prim.Native.Nat.{ℕ, _+_, _<_}
 use lib.IntN.{ℤ, pos, _+ℤ_, _-ℤ_}
 use Rattle.tree_laws.specs.Ancestor.{none, Anc}
 use Rattle.tree_laws.specs.ChildLinks.{Chain, Member}
@@ -26,7 +26,7 @@ pub record ChildLinks (t : Table) (x : ℕ) : Type 0 where
   pub alone : parent t x ≡ none → t .row x .next ≡ none
 
 -- the root that the first row f of a tree records is a row of that tree
-pub record Rootd (t : Table) (f : ℕ) : Type 0 where
+pub record Rooted (t : Table) (f : ℕ) : Type 0 where
   pub inUse : t .root f < t .count
   pub over : Anc (parent t) f (t .root f)
 

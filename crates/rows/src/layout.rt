@@ -26,9 +26,10 @@ pub const LABEL: u16 = 9;
 // The root that a tree's first row records; in other rows it says nothing.
 pub const ROOT: u16 = 10;
 
-pub const FIELDS: usize = 11;
+// One place is not used: a row of twelve is addressed by one scaled index.
+pub const FIELDS: usize = 12;
 
-// Labels of rows off the line from node 0 to the root go from 1 to this one.
+// Labels go from 0 to this one.
 pub const LARGEST_LABEL: u16 = 9999;
 
 // 64-bit numbers of a row in `numbers`.

@@ -9,101 +9,128 @@ use native.Mathlib.Omega.{arith}
 use borrow.Author.Tests.{eq-eqb, ne-eqb}
 use lib.ListN.{length}
 use Rattle.laws.specs.Test.{says-true, bit}
-use Rattle.rows.specs.declared.refusal.Refusal.the-variants.{UnknownNode, Misfit}
+use Rattle.tree_laws.specs.Nca.{Kindred}
+use Rattle.rows.specs.declared.refusal.Refusal.{Refusal}
+use Rattle.rows.specs.declared.refusal.Refusal.the-variants.{UnknownNode, Misfit, OtherTree}
+use Rattle.rows.specs.Refusal.{numberOf}
 use Rattle.rows.specs.Answer.{Answer}
+use Rattle.rows.specs.PlainTree.{plain}
 use Rattle.query.specs.Outcome.{Outcome as QuestionOutcome, refused as noAnswer}
 use Rattle.query.specs.Question.{question as ask}
 use Rattle.query.specs.QuestionLaws.{question-unknown-x, question-unknown-y}
 use Rattle.rows.specs.CapacityLaws.{fits-told}
-use Rattle.question.specs.QuestionExact.{given, question-exact}
+use Rattle.question.specs.QuestionExact.{given, question-exact, question-other-tree}
 use Rattle.alike.specs.Outcome.{Outcome as AlikeOutcome, refused as noValue}
 use Rattle.alike.specs.Alike.{alike as compare}
 use Rattle.alike.specs.AlikeLaws.{alike-unknown-x, alike-unknown-y}
-use Rattle.alike.specs.AlikeExact.{alike-exact}
+use Rattle.alike.specs.AlikeExact.{alike-exact, alike-other-tree}
 use Rattle.inspect_laws.specs.Exact.{inspect-exact}
 use Rattle.inspect.specs.declared.Inspected.{Inspected}
 use Rattle.inspect.specs.declared.Inspected.the-variants.{Passes, Refused}
 use Rattle.inspect.specs.Inspection.{inspection as inspect}
 use Rattle.plain_list.specs.PlainList.{PlainList, countOf}
-use Rattle.plain_list.specs.PlainStep.{PlainReply, PlainOutcome, refused as plainRefused, answered as plainAnswered, same as plainSame, passes}
-use Rattle.plain_list.specs.PlainStep.{question as plainQuestion, alike as plainAlike, inspection as plainInspection, refusalOf, plainOutcome}
-use Rattle.plain_list.specs.PlainStepLaws.{question-served, alike-served, inspection-served, question-unknown, alike-unknown, inspection-misfit}
-use Rattle.plain_list.specs.Shows.{naive-is, naive-same-is}
+use Rattle.plain_list.specs.PlainStep.{PlainReply, PlainOutcome, replies as plainReplies, refused as plainRefused, answered as plainAnswered, same as plainSame, passes}
+use Rattle.plain_list.specs.PlainStep.{question as plainQuestion, alike as plainAlike, inspection as plainInspection, refusalOf, rootIn, plainOutcome}
+use Rattle.plain_list.specs.PlainStepLaws.{question-served, alike-served, inspection-served}
+use Rattle.plain_list.specs.PlainStepLaws.{question-unknown, question-apart, alike-unknown, alike-apart, inspection-misfit}
+use Rattle.plain_list.specs.Shows.{roots-kindred, kindred-roots, naive-is, naive-same-is}
 use Rattle.sequence.specs.Calls.{Call, question, alike, inspection, Reply, refused, same, inspected}
 use Rattle.sequence.specs.Run.{Fast, tableIn, Turn, replies, questionReply, alikeReply, inspectionReply, step}
 use Rattle.sequence.specs.Agrees.{refusals, answers, alikes, pass}
 use Rattle.sequence.specs.Invariant.{Stands}
 use Rattle.sequence.specs.StepExact.{StepStands, still}
+use Rattle.sequence.specs.Trees.{in-use}
 
-module _ {c : ℕ} {f : Fast} {p : PlainList} {total : ℕ} (s : Stands c f p total) where
+module _ {c : ℕ} {f : Fast} {p : PlainList} {total joinings : ℕ} (s : Stands c f p total joinings) where
   -- the outcomes of both sides, where neither changes anything
-  pub steps-by : (q : Call) {o : PlainOutcome} {u : Turn} (r : PlainReply) (v : Reply) → o ≡ record { reply = r; after = p } → u ≡ replies f v
-      → StepStands c f total q (record { reply = r; after = p }) (replies f v) → StepStands c f total q o u
+  pub steps-by : (q : Call) {o : PlainOutcome} {u : Turn} (r : PlainReply) (v : Reply) → o ≡ plainReplies r p → u ≡ replies f v
+      → StepStands c f total joinings q (plainReplies r p) (replies f v) → StepStands c f total joinings q o u
   steps-by q r v e i k = rw (e, i) k
 
-  pub still-refused : (q : Call) (n : ℕ) → StepStands c f total q (refusalOf n p) (replies f (refused n))
-  still-refused q n = still s q (refusals n) refl (λ n k e. let z : _≡_ {A = ℕ} 0 1 = cc in omega arith)
+  pub still-refused : (q : Call) (n : ℕ) → StepStands c f total joinings q (refusalOf n p) (replies f (refused n))
+  still-refused q n = still s q (refusals n) refl (λ n k e. let z : _≡_ {A = ℕ} 0 1 = cc in omega arith) (λ k e. let z : _≡_ {A = ℕ} 0 1 = cc in omega arith)
+
+  -- Nodes of one tree
+
+  one-tree : (x y : ℕ) → x < countOf p → y < countOf p → rootIn p x ≡ rootIn p y → Kindred (plain (tableIn f)) x y
+  one-tree x y l m e = roots-kindred (s .proper) (s .shows) l m e
+
+  two-trees : (x y : ℕ) → x < countOf p → y < countOf p → rootIn p x ≢ rootIn p y → ¬ Kindred (plain (tableIn f)) x y
+  two-trees x y l m d k = d (kindred-roots (s .proper) (s .shows) l m k)
 
   -- Question
 
-  question-refused : (x y : ℕ) → ¬ ((x < countOf p) × (y < countOf p)) → noAnswer UnknownNode ≡ ask (f .parts) (f .state) x y
-      → StepStands c f total (question x y) (plainOutcome c p (plainQuestion x y)) (step f (question x y))
-  unfolding step
-  question-refused x y d e = steps-by (question x y) (plainRefused 1) (refused 1) (question-unknown c p x y d)
-      (ap (λ (o : QuestionOutcome). replies f (questionReply o)) (sym e)) (still-refused (question x y) 1)
+  module _ (x y : ℕ) where
+    question-refused : (r : Refusal) → plainOutcome c p (plainQuestion x y) ≡ refusalOf (numberOf r) p → ask (f .parts) (f .state) x y ≡ noAnswer r
+        → StepStands c f total joinings (question x y) (plainOutcome c p (plainQuestion x y)) (step f (question x y))
+    unfolding step
+    question-refused r e i = steps-by (question x y) (plainRefused (numberOf r)) (refused (numberOf r)) e
+        (ap (λ (o : QuestionOutcome). replies f (questionReply o)) i) (still-refused (question x y) (numberOf r))
 
-  question-given : (x y : ℕ) (r : Answer) → plainOutcome c p (plainQuestion x y) ≡ record { reply = plainAnswered r; after = p }
-      → ask (f .parts) (f .state) x y ≡ given r → StepStands c f total (question x y) (plainOutcome c p (plainQuestion x y)) (step f (question x y))
-  unfolding step
-  question-given x y r e i = steps-by (question x y) (plainAnswered r) _ e (ap (λ (o : QuestionOutcome). replies f (questionReply o)) i)
-      (still s (question x y) (answers r) refl (λ n k e. let z : _≡_ {A = ℕ} 0 1 = cc in omega arith))
+    question-given : (r : Answer) → plainOutcome c p (plainQuestion x y) ≡ plainReplies (plainAnswered r) p
+        → ask (f .parts) (f .state) x y ≡ given r
+        → StepStands c f total joinings (question x y) (plainOutcome c p (plainQuestion x y)) (step f (question x y))
+    unfolding step
+    question-given r e i = steps-by (question x y) (plainAnswered r) _ e (ap (λ (o : QuestionOutcome). replies f (questionReply o)) i)
+        (still s (question x y) (answers r) refl (λ n k e. let z : _≡_ {A = ℕ} 0 1 = cc in omega arith) (λ k e. let z : _≡_ {A = ℕ} 0 1 = cc in omega arith))
 
-  question-answered : (x y : ℕ) → x < countOf p → y < countOf p
-      → StepStands c f total (question x y) (plainOutcome c p (plainQuestion x y)) (step f (question x y))
-  question-answered x y l m =
-      let e = question-exact (f .parts) (f .state) x y (s .fits) (s .rules) (omega (arith, s .count)) (omega (arith, s .count)) in
-      question-given x y (e .value)
-      (question-served c p x y l m ∙ ap (λ (a : Answer). record { reply = plainAnswered a; after = p }) (naive-is (s .proper) (s .shows) l m (e .answers)))
-      (e .outcome)
+    question-answered : x < countOf p → y < countOf p → rootIn p x ≡ rootIn p y
+        → StepStands c f total joinings (question x y) (plainOutcome c p (plainQuestion x y)) (step f (question x y))
+    question-answered l m k =
+        let e = question-exact (f .parts) (f .state) x y (s .fits) (s .rules) (in-use s l) (in-use s m) (one-tree x y l m k) in
+        question-given (e .value)
+        (question-served c p x y l m k ∙ ap (λ (a : Answer). plainReplies (plainAnswered a) p) (naive-is (s .proper) (s .shows) l m k (e .answers)))
+        (e .outcome)
 
-  pub question-step : (x y : ℕ) → StepStands c f total (question x y) (plainOutcome c p (plainQuestion x y)) (step f (question x y))
-  question-step x y = elim (decLt x (countOf p)) [
-    | no i ↦ question-refused x y (λ h. i (h .0)) (question-unknown-x (f .parts) (f .state) x y (fits-told (s .fits)) (omega (arith, s .count)))
-    | yes l ↦ elim (decLt y (countOf p)) [
-      | no j ↦ question-refused x y (λ h. j (h .1))
-          (question-unknown-y (f .parts) (f .state) x y (fits-told (s .fits)) (omega (arith, s .count)) (omega (arith, s .count)))
-      | yes m ↦ question-answered x y l m
+    pub question-step : StepStands c f total joinings (question x y) (plainOutcome c p (plainQuestion x y)) (step f (question x y))
+    question-step = elim (decLt x (countOf p)) [
+      | no i ↦ question-refused UnknownNode (question-unknown c p x y (λ h. i (h .0)))
+          (sym (question-unknown-x (f .parts) (f .state) x y (fits-told (s .fits)) (omega (arith, s .count))))
+      | yes l ↦ elim (decLt y (countOf p)) [
+        | no j ↦ question-refused UnknownNode (question-unknown c p x y (λ h. j (h .1)))
+            (sym (question-unknown-y (f .parts) (f .state) x y (fits-told (s .fits)) (in-use s l) (omega (arith, s .count))))
+        | yes m ↦ elim (ℕ-discrete (rootIn p x) (rootIn p y)) [
+          | no d ↦ question-refused OtherTree (question-apart c p x y l m d)
+              (question-other-tree (f .parts) (f .state) x y (s .fits) (s .rules) (in-use s l) (in-use s m) (two-trees x y l m d))
+          | yes k ↦ question-answered l m k
+        ]
+      ]
     ]
-  ]
 
   -- Alike
 
-  alike-refused : (x y : ℕ) → ¬ ((x < countOf p) × (y < countOf p)) → noValue UnknownNode ≡ compare (f .parts) (f .state) x y
-      → StepStands c f total (alike x y) (plainOutcome c p (plainAlike x y)) (step f (alike x y))
-  unfolding step
-  alike-refused x y d e = steps-by (alike x y) (plainRefused 1) (refused 1) (alike-unknown c p x y d)
-      (ap (λ (o : AlikeOutcome). replies f (alikeReply o)) (sym e)) (still-refused (alike x y) 1)
+  module _ (x y : ℕ) where
+    alike-refused : (r : Refusal) → plainOutcome c p (plainAlike x y) ≡ refusalOf (numberOf r) p → compare (f .parts) (f .state) x y ≡ noValue r
+        → StepStands c f total joinings (alike x y) (plainOutcome c p (plainAlike x y)) (step f (alike x y))
+    unfolding step
+    alike-refused r e i = steps-by (alike x y) (plainRefused (numberOf r)) (refused (numberOf r)) e
+        (ap (λ (o : AlikeOutcome). replies f (alikeReply o)) i) (still-refused (alike x y) (numberOf r))
 
-  alike-answered : (x y : ℕ) → x < countOf p → y < countOf p
-      → StepStands c f total (alike x y) (plainOutcome c p (plainAlike x y)) (step f (alike x y))
-  unfolding step
-  alike-answered x y l m =
-      let e = alike-exact (f .parts) (f .state) x y (s .fits) (s .rules) (omega (arith, s .count)) (omega (arith, s .count)) in
-      let b : Bool = e .value in
-      steps-by (alike x y) (plainSame (bit b)) (same (bit b))
-      (alike-served c p x y l m ∙ ap (λ (a : Bool). record { reply = plainSame (bit a); after = p }) (naive-same-is (s .proper) (s .shows) l m (e .says)))
-      (ap (λ (o : AlikeOutcome). replies f (alikeReply o)) (e .outcome))
-      (still s (alike x y) (alikes (bit b)) refl (λ n k e. let z : _≡_ {A = ℕ} 0 1 = cc in omega arith))
+    alike-answered : x < countOf p → y < countOf p → rootIn p x ≡ rootIn p y
+        → StepStands c f total joinings (alike x y) (plainOutcome c p (plainAlike x y)) (step f (alike x y))
+    unfolding step
+    alike-answered l m k =
+        let e = alike-exact (f .parts) (f .state) x y (s .fits) (s .rules) (in-use s l) (in-use s m) (one-tree x y l m k) in
+        let b : Bool = e .value in
+        steps-by (alike x y) (plainSame (bit b)) (same (bit b))
+        (alike-served c p x y l m k ∙ ap (λ (a : Bool). plainReplies (plainSame (bit a)) p) (naive-same-is (s .proper) (s .shows) l m (e .says)))
+        (ap (λ (o : AlikeOutcome). replies f (alikeReply o)) (e .outcome))
+        (still s (alike x y) (alikes (bit b)) refl (λ n k e. let z : _≡_ {A = ℕ} 0 1 = cc in omega arith) (λ k e. let z : _≡_ {A = ℕ} 0 1 = cc in omega arith))
 
-  pub alike-step : (x y : ℕ) → StepStands c f total (alike x y) (plainOutcome c p (plainAlike x y)) (step f (alike x y))
-  alike-step x y = elim (decLt x (countOf p)) [
-    | no i ↦ alike-refused x y (λ h. i (h .0)) (alike-unknown-x (f .parts) (f .state) x y (fits-told (s .fits)) (omega (arith, s .count)))
-    | yes l ↦ elim (decLt y (countOf p)) [
-      | no j ↦ alike-refused x y (λ h. j (h .1))
-          (alike-unknown-y (f .parts) (f .state) x y (fits-told (s .fits)) (omega (arith, s .count)) (omega (arith, s .count)))
-      | yes m ↦ alike-answered x y l m
+    pub alike-step : StepStands c f total joinings (alike x y) (plainOutcome c p (plainAlike x y)) (step f (alike x y))
+    alike-step = elim (decLt x (countOf p)) [
+      | no i ↦ alike-refused UnknownNode (alike-unknown c p x y (λ h. i (h .0)))
+          (sym (alike-unknown-x (f .parts) (f .state) x y (fits-told (s .fits)) (omega (arith, s .count))))
+      | yes l ↦ elim (decLt y (countOf p)) [
+        | no j ↦ alike-refused UnknownNode (alike-unknown c p x y (λ h. j (h .1)))
+            (sym (alike-unknown-y (f .parts) (f .state) x y (fits-told (s .fits)) (in-use s l) (omega (arith, s .count))))
+        | yes m ↦ elim (ℕ-discrete (rootIn p x) (rootIn p y)) [
+          | no d ↦ alike-refused OtherTree (alike-apart c p x y l m d)
+              (alike-other-tree (f .parts) (f .state) x y (s .fits) (s .rules) (in-use s l) (in-use s m) (two-trees x y l m d))
+          | yes k ↦ alike-answered l m k
+        ]
+      ]
     ]
-  ]
 
   -- Inspection
 
@@ -115,7 +142,7 @@ module _ {c : ℕ} {f : Fast} {p : PlainList} {total : ℕ} (s : Stands c f p to
   unfolding inspect
   inspection-not n d = rw (fits-told (s .fits), ne-eqb n c d) refl
 
-  pub inspection-step : (scratch : List ℕ) → StepStands c f total (inspection scratch) (plainOutcome c p (plainInspection (length scratch)))
+  pub inspection-step : (scratch : List ℕ) → StepStands c f total joinings (inspection scratch) (plainOutcome c p (plainInspection (length scratch)))
       (step f (inspection scratch))
   unfolding step
   inspection-step scratch = elim (ℕ-discrete (length scratch) c) [
@@ -123,5 +150,5 @@ module _ {c : ℕ} {f : Fast} {p : PlainList} {total : ℕ} (s : Stands c f p to
         (ap (λ (o : Inspected). replies f (inspectionReply o)) (inspection-not (length scratch) d)) (still-refused (inspection scratch) 3)
     | yes e ↦ steps-by (inspection scratch) passes (inspected true) (inspection-served c p (length scratch) e)
         (ap (λ (o : Inspected). replies f (inspectionReply o)) (inspection-is (length scratch) e))
-        (still s (inspection scratch) pass refl (λ n k e. let z : _≡_ {A = ℕ} 0 1 = cc in omega arith))
+        (still s (inspection scratch) pass refl (λ n k e. let z : _≡_ {A = ℕ} 0 1 = cc in omega arith) (λ k e. let z : _≡_ {A = ℕ} 0 1 = cc in omega arith))
   ]

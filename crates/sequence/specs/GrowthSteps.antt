@@ -1,153 +1,133 @@
--- Leaf and root, where the table stands beside the plain list: refused as it refuses, or served, and the table stands beside it again.
+-- First nodes, leaves and new roots, where the table stands beside the plain list: refused as it refuses, or served.
 use mathlib.Core.Path.{_≡_, refl, sym, ap, _∙_}
-use mathlib.Core.Bool.{false}
 use mathlib.Core.Logic.{_≢_}
 use mathlib.Core.List.{List}
-use Prim.Native.Nat.{ℕ, suc, _≤_, _<_}
+use Prim.Native.Nat.{ℕ, _≤_, _<_}
 use native.Mathlib.Decide.{decLt, ℕ-discrete}
 use native.Mathlib.Omega.{arith}
-use borrow.Author.Tests.{eq-eqb, ne-eqb, le-leb}
+use borrow.Author.Tests.{eq-eqb, ne-eqb}
 use lib.ListN.{length}
-use Rattle.laws.specs.Test.{says-false, says-and, says-leb}
-use Rattle.rows.specs.declared.capacity.Fit.the-variants.{Capacity}
+use Rattle.laws.specs.Test.{says-true, says-false}
+use Rattle.tree_laws.specs.Ancestor.{none}
 use Rattle.rows.specs.declared.refusal.Refusal.{Refusal}
-use Rattle.rows.specs.declared.refusal.Refusal.the-variants.{UnknownNode, Full, Misfit, BadLabel}
+use Rattle.rows.specs.declared.refusal.Refusal.the-variants.{UnknownNode, Full, Misfit, BadLabel, NotRoot}
 use Rattle.rows.specs.Refusal.{numberOf}
-use Rattle.rows.specs.Capacity.{capacityOf}
-use Rattle.rows.specs.Table.{Table, label}
-use Rattle.rows.specs.PlainTree.{plain}
+use Rattle.rows.specs.Table.{label}
+use Rattle.rows.specs.PlainTree.{plain, root as rootOf}
 use Rattle.rows.specs.StoredTree.{labelLimit}
-use Rattle.rows.specs.CapacityLaws.{fits-told}
-use Rattle.growth.specs.declared.Grown.{Grown}
-use Rattle.growth.specs.declared.plan.Planned.{Planned}
+use Rattle.numbering.specs.TreeTests.{root-is}
 use Rattle.growth.specs.declared.plan.Planned.the-variants.{Refuse}
-use Rattle.growth.specs.Plan.{isLabel, leafPlan, rootPlan}
-use Rattle.growth.specs.PlanLaws.{leaf-scratch, leaf-unknown, leaf-label, leaf-full, root-scratch, root-full}
-use Rattle.growth.specs.Growth.{Outcome, grownBy, addLeaf, addRoot}
-use Rattle.growth_laws.specs.Growth.{Growth, leaf as newLeaf, root as newRoot, rootOf}
-use Rattle.growth_laws.specs.GrowthPays.{total-kept}
-use Rattle.growth_exact.specs.GrowthExact.{GrownExactly, tableGrown, leaf-exact, root-exact}
-use Rattle.plain_list.specs.PlainList.{PlainList, countOf, withLeaf, withRoot}
-use Rattle.plain_list.specs.PlainListLaws.{leaf-count, leaf-root, root-count, root-root}
-use Rattle.plain_list.specs.PlainStep.{node, refused as plainRefused, leaf as plainLeaf, root as plainRoot, plainOutcome}
+use Rattle.growth.specs.Plan.{firstPlan, leafPlan, overPlan, rootPlan}
+use Rattle.growth.specs.PlanLaws.{leaf-scratch, leaf-unknown, leaf-label, leaf-full, first-scratch, first-full, root-scratch, root-full}
+use Rattle.growth.specs.PlanLaws.{over-scratch, over-unknown, over-other, over-full}
+use Rattle.growth.specs.Growth.{Outcome, addFirst, addLeaf, addOver, addRoot}
+use Rattle.growth_laws.specs.Growth.{leaf as newLeaf, root as newRoot}
+use Rattle.growth_exact.specs.GrowthExact.{GrownExactly, tableGrown, standing-is, rooted, leaf-exact, over-exact, root-exact}
+use Rattle.growth_exact.specs.FirstExact.{StartedExactly, first-exact, root-first-exact}
+use Rattle.plain_list.specs.PlainList.{PlainList, countOf, parentOf, withFirst, withLeaf, withRoot}
+use Rattle.plain_list.specs.PlainListLaws.{node-count, root-count}
+use Rattle.plain_list.specs.PlainStep.{first as plainFirst, leaf as plainLeaf, root as plainRoot, rootOver as plainOver, refusalOf, plainOutcome}
 use Rattle.plain_list.specs.PlainStepLaws as plainly
-use Rattle.plain_list.specs.Proper.{Proper, proper-leaf, proper-root}
-use Rattle.plain_list.specs.Shows.{Shows, shows-leaf, shows-root}
-use Rattle.sequence.specs.Calls.{Call, leaf, root, refused, grown}
-use Rattle.sequence.specs.Run.{Fast, tableIn, Turn, replies, grownReply, stateAfter, afterGrowth, rowsIn, step}
-use Rattle.sequence.specs.Agrees.{Agrees, nodes}
+use Rattle.plain_list.specs.Proper.{root-first, proper-first, proper-leaf, proper-root}
+use Rattle.plain_list.specs.Shows.{shows-node, shows-root}
+use Rattle.sequence.specs.Calls.{first, leaf, root, rootOver}
+use Rattle.sequence.specs.Run.{Fast, tableIn, step}
 use Rattle.sequence.specs.Invariant.{Stands}
-use Rattle.sequence.specs.StepExact.{Asks, asks-leaf, asks-root, StepStands, few-rows}
-use Rattle.sequence.specs.AskedSteps.{steps-by, still-refused}
+use Rattle.sequence.specs.StepExact.{asks-leaf, asks-over, asks-root, begins-first, begins-root, StepStands}
+use Rattle.sequence.specs.Trees.{in-use, root-top, top-root, root-known, root-shown}
+use Rattle.sequence.specs.Growths.{says-label, Next, grown-step, started-step, fit, grown-refused}
 
-node-agrees : {a b : ℕ} (k : ℕ) → a ≡ b → Agrees (node a) (grown b k)
-node-agrees {a} {b} k e = rw e (nodes b k)
+module _ {c : ℕ} {f : Fast} {p : PlainList} {total joinings : ℕ} (s : Stands c f p total joinings) where
+  small : c ≤ none
+  small = omega (arith, s .fits .most)
 
-module _ {c : ℕ} {f : Fast} {p : PlainList} {total : ℕ} (s : Stands c f p total) where
-  -- A growth that is served
+  -- there is room for one row more
+  room : countOf p ≢ c → f .state .count < c
+  room d = omega (arith, s .count, s .proper .room)
 
-  -- p′ is the plain list after growth g, which left the table d
-  record Next (g : Growth) (d : Table) (p′ : PlainList) : Type 0 where
-    proper : Proper c p′
-    shows : Shows (plain d) (label d) p′
-    count : countOf p′ ≡ suc (countOf p)
-    root : p′ .root ≡ rootOf (tableIn f) g
+  -- The plain list after each growth
 
-  module _ (room : f .state .count < c) {g : Growth} {o : Outcome} (e : GrownExactly c (f .parts) (f .state) g o) where
-    -- the table that it leaves
-    abbrev left : Table
-    left = tableGrown (f .parts) (f .state) g o
-
-    -- the turn that it takes
-    abbrev turn : Grown → Turn
-    turn y = record { reply = grownReply y; after = record { parts = o .parts; state = stateAfter (f .state) y } }
-
-    grown-step : {q : Call} {p′ : PlainList} → Asks q g → Next g left p′ → StepStands c f total q (record { reply = node (countOf p); after = p′ })
-        (afterGrowth (f .state) o)
-    grown-step {q} {p′} a n = rw (ap turn (e .answered)) record {
-      exact = record {
-        agrees = node-agrees _ (s .count);
-        few = λ x y _. few-rows (f .parts) (s .fits) (f .state) x y;
-        renumbers = λ m k i. record { growth = g; asked = a; head = e .head; grown = e .grown; rows = sym (ap rowsIn i) };
-        kept = λ n i. absurd (let z : _≡_ {A = ℕ} 0 1 = cc in omega arith);
-      };
-      stands = record {
-        fits = e .fits;
-        rules = e .rules;
-        proper = n .proper;
-        shows = n .shows;
-        count = n .count ∙ ap suc (s .count);
-        root = n .root;
-        paid = total-kept (s .rules) (s .fits .most) room (e .grown) total (s .paid);
-      };
-    }
-
-  leaf-next : {v l : ℕ} {o : Outcome} → f .state .count < c → v < countOf p → (e : GrownExactly c (f .parts) (f .state) (newLeaf v l) o)
-      → Next (newLeaf v l) (tableGrown (f .parts) (f .state) (newLeaf v l) o) (withLeaf p v l)
-  leaf-next {v} {l} {o} room h e = record {
-    proper = proper-leaf (omega (arith, s .fits .most)) (s .proper) (λ z. omega (arith, s .count)) l h;
-    shows = shows-leaf (s .proper) (s .shows) (λ x i. e .plain .labelOld x (omega (arith, s .count))) (λ x i. e .plain .parentOld x (omega (arith, s .count)))
-        (ap (plain (tableGrown (f .parts) (f .state) (newLeaf v l) o)) (s .count) ∙ e .plain .parentNew)
-        (ap (label (tableGrown (f .parts) (f .state) (newLeaf v l) o)) (s .count) ∙ e .plain .labelNew);
-    count = leaf-count p v l;
-    root = leaf-root p v l ∙ s .root;
+  first-next : {o : Outcome} → countOf p ≢ c → StartedExactly c (f .parts) (f .state) o → Next s (tableGrown (f .state) o) (withFirst p)
+  first-next {o} n e = record {
+    proper = proper-first small (s .proper) n;
+    shows = shows-node (s .proper) (s .shows) (λ x i. e .plain .labelOld x (in-use s i)) (λ x i. e .plain .parentOld x (in-use s i))
+        (ap (plain (tableGrown (f .state) o)) (s .count) ∙ e .plain .parentNew) (ap (label (tableGrown (f .state) o)) (s .count) ∙ e .plain .labelNew);
+    count = node-count p none 0;
   }
 
-  root-next : {o : Outcome} → f .state .count < c → (e : GrownExactly c (f .parts) (f .state) newRoot o)
-      → Next newRoot (tableGrown (f .parts) (f .state) newRoot o) (withRoot p)
-  root-next {o} room e = record {
-    proper = proper-root (omega (arith, s .fits .most)) (s .proper) (λ z. omega (arith, s .count));
-    shows = shows-root (s .proper) (s .shows) (λ x i. e .plain .labelOld x (omega (arith, s .count)))
-        (λ x i d. e .plain .parentOld x (omega (arith, s .count)) ∙ (rw (ne-eqb x (f .state .root) (λ z. d (z ∙ sym (s .root)))) refl))
-        (λ i. ap (plain (tableGrown (f .parts) (f .state) newRoot o)) (s .root) ∙ e .plain .parentOld (f .state .root) (omega (arith, s .count, s .root))
-        ∙ (rw (eq-eqb (f .state .root) (f .state .root) refl) (sym (s .count))))
-        (ap (plain (tableGrown (f .parts) (f .state) newRoot o)) (s .count) ∙ e .plain .parentNew)
-        (ap (label (tableGrown (f .parts) (f .state) newRoot o)) (s .count) ∙ e .plain .labelNew);
-    count = root-count p;
-    root = root-root p ∙ s .count;
+  leaf-next : {v l : ℕ} {o : Outcome} → countOf p ≢ c → v < countOf p → GrownExactly c (f .parts) (f .state) (newLeaf v l) o
+      → Next s (tableGrown (f .state) o) (withLeaf p v l)
+  leaf-next {v} {l} {o} n h e = record {
+    proper = proper-leaf small (s .proper) n l h;
+    shows = shows-node (s .proper) (s .shows) (λ x i. e .plain .labelOld x (in-use s i)) (λ x i. e .plain .parentOld x (in-use s i))
+        (ap (plain (tableGrown (f .state) o)) (s .count) ∙ e .plain .parentNew) (ap (label (tableGrown (f .state) o)) (s .count) ∙ e .plain .labelNew);
+    count = node-count p v l;
   }
 
-  -- A growth that is refused
+  root-next : {r : ℕ} {o : Outcome} → countOf p ≢ c → r < countOf p → parentOf p r ≡ none → GrownExactly c (f .parts) (f .state) (newRoot r) o
+      → Next s (tableGrown (f .state) o) (withRoot p r)
+  root-next {r} {o} n h t e = record {
+    proper = proper-root small (s .proper) n h t;
+    shows = shows-root (s .proper) (s .shows) (λ x i. e .plain .labelOld x (in-use s i)) h
+        (λ x i d. e .plain .parentOld x (in-use s i) ∙ (rw (ne-eqb x r d) refl))
+        (e .plain .parentOld r (in-use s h) ∙ (rw (eq-eqb r r refl) (sym (s .count))))
+        (ap (plain (tableGrown (f .state) o)) (s .count) ∙ e .plain .parentNew) (ap (label (tableGrown (f .state) o)) (s .count) ∙ e .plain .labelNew);
+    count = root-count p r;
+  }
 
-  fit : Capacity c ≡ capacityOf (f .parts)
-  fit = sym (fits-told (s .fits))
+  -- First node
 
-  refused-by : (r : Refusal) (z : Planned) → Refuse r ≡ z → afterGrowth (f .state) (grownBy (f .parts) z) ≡ replies f (refused (numberOf r))
-  unfolding grownBy
-  refused-by r z e = ap (λ (z : Planned). afterGrowth (f .state) (grownBy (f .parts) z)) (sym e)
+  module _ (scratch : List ℕ) where
+    first-refused : (r : Refusal) → plainOutcome c p (plainFirst (length scratch)) ≡ refusalOf (numberOf r) p
+        → Refuse r ≡ firstPlan (f .parts) (length scratch) (f .state)
+        → StepStands c f total joinings (first scratch) (plainOutcome c p (plainFirst (length scratch))) (step f (first scratch))
+    unfolding step addFirst
+    first-refused r e i = grown-refused s (first scratch) r _ e i
+
+    first-served : length scratch ≡ c → countOf p ≢ c
+        → StepStands c f total joinings (first scratch) (plainOutcome c p (plainFirst (length scratch))) (step f (first scratch))
+    unfolding step
+    first-served e n =
+        let x = first-exact (f .parts) (f .state) (s .fits) (s .rules) (room n) (length scratch) e in
+        rw (plainly.first-served c p (length scratch) e n) (started-step s _ x begins-first (first-next n x))
+
+    pub first-step : StepStands c f total joinings (first scratch) (plainOutcome c p (plainFirst (length scratch))) (step f (first scratch))
+    first-step = elim (ℕ-discrete (length scratch) c) [
+      | no d ↦ first-refused Misfit (plainly.first-misfit c p (length scratch) d) (first-scratch (f .parts) (length scratch) (f .state) c (fit s) d)
+      | yes e ↦ elim (ℕ-discrete (countOf p) c) [
+        | yes w ↦ first-refused Full (plainly.first-full c p (length scratch) e w)
+            (first-full (f .parts) (length scratch) (f .state) c (fit s) e (sym (s .count) ∙ w))
+        | no w ↦ first-served e w
+      ]
+    ]
 
   -- Leaf
 
   module _ (v l : ℕ) (scratch : List ℕ) where
-    leaf-refused : (r : Refusal) → plainOutcome c p (plainLeaf v l (length scratch)) ≡ record { reply = plainRefused (numberOf r); after = p }
+    leaf-refused : (r : Refusal) → plainOutcome c p (plainLeaf v l (length scratch)) ≡ refusalOf (numberOf r) p
         → Refuse r ≡ leafPlan (f .parts) (length scratch) (f .state) v l
-        → StepStands c f total (leaf v l scratch) (plainOutcome c p (plainLeaf v l (length scratch))) (step f (leaf v l scratch))
+        → StepStands c f total joinings (leaf v l scratch) (plainOutcome c p (plainLeaf v l (length scratch))) (step f (leaf v l scratch))
     unfolding step addLeaf
-    leaf-refused r e i = steps-by s (leaf v l scratch) (plainRefused (numberOf r)) (refused (numberOf r)) e (refused-by r _ i)
-        (still-refused s (leaf v l scratch) (numberOf r))
+    leaf-refused r e i = grown-refused s (leaf v l scratch) r _ e i
 
     leaf-served : length scratch ≡ c → v < countOf p → 1 ≤ l → l ≤ labelLimit → countOf p ≢ c
-        → StepStands c f total (leaf v l scratch) (plainOutcome c p (plainLeaf v l (length scratch))) (step f (leaf v l scratch))
+        → StepStands c f total joinings (leaf v l scratch) (plainOutcome c p (plainLeaf v l (length scratch))) (step f (leaf v l scratch))
     unfolding step
     leaf-served e h i j n =
-        let room : f .state .count < c = omega (arith, s .count, s .proper .room) in
-        let x = leaf-exact (f .parts) (f .state) (s .fits) (s .rules) (length scratch) e room v l (omega (arith, s .count)) i j in
-        rw (plainly.leaf-served c p v l (length scratch) e h i j n) (grown-step room x asks-leaf (leaf-next room h x))
-
-    no-label : ¬ ((1 ≤ l) × (l ≤ labelLimit)) → isLabel l ≡ false
-    no-label d = says-false (says-and (says-leb 1 l) (λ _. says-leb l labelLimit)) d
+        let x = leaf-exact (f .parts) (f .state) (s .fits) (s .rules) (length scratch) e (room n) v l (in-use s h) i j in
+        rw (plainly.leaf-served c p v l (length scratch) e h i j n) (grown-step s _ x asks-leaf (leaf-next n h x))
 
     leaf-unlabelled : length scratch ≡ c → v < countOf p → ¬ ((1 ≤ l) × (l ≤ labelLimit))
-        → StepStands c f total (leaf v l scratch) (plainOutcome c p (plainLeaf v l (length scratch))) (step f (leaf v l scratch))
+        → StepStands c f total joinings (leaf v l scratch) (plainOutcome c p (plainLeaf v l (length scratch))) (step f (leaf v l scratch))
     leaf-unlabelled e h d = leaf-refused BadLabel (plainly.leaf-no-label c p v l (length scratch) e h d)
-        (leaf-label (f .parts) (length scratch) (f .state) v l c fit e (omega (arith, s .count)) (no-label d))
+        (leaf-label (f .parts) (length scratch) (f .state) v l c (fit s) e (in-use s h) (says-false (says-label l) d))
 
-    pub leaf-step : StepStands c f total (leaf v l scratch) (plainOutcome c p (plainLeaf v l (length scratch))) (step f (leaf v l scratch))
+    pub leaf-step : StepStands c f total joinings (leaf v l scratch) (plainOutcome c p (plainLeaf v l (length scratch))) (step f (leaf v l scratch))
     leaf-step = elim (ℕ-discrete (length scratch) c) [
-      | no d ↦ leaf-refused Misfit (plainly.leaf-misfit c p v l (length scratch) d) (leaf-scratch (f .parts) (length scratch) (f .state) v l c fit d)
+      | no d ↦ leaf-refused Misfit (plainly.leaf-misfit c p v l (length scratch) d) (leaf-scratch (f .parts) (length scratch) (f .state) v l c (fit s) d)
       | yes e ↦ elim (decLt v (countOf p)) [
         | no d ↦ leaf-refused UnknownNode (plainly.leaf-unknown c p v l (length scratch) e (omega arith))
-            (leaf-unknown (f .parts) (length scratch) (f .state) v l c fit e (omega (arith, s .count)))
+            (leaf-unknown (f .parts) (length scratch) (f .state) v l c (fit s) e (omega (arith, s .count)))
         | yes h ↦ elim (decLt l 1) [
           | yes d ↦ leaf-unlabelled e h (λ z. omega (arith, z .0))
           | no i ↦ elim (decLt labelLimit l) [
@@ -157,8 +137,8 @@ module _ {c : ℕ} {f : Fast} {p : PlainList} {total : ℕ} (s : Stands c f p to
                 let b : l ≤ labelLimit = omega arith in
                 elim (ℕ-discrete (countOf p) c) [
                   | yes w ↦ leaf-refused Full (plainly.leaf-full c p v l (length scratch) e h a b w)
-                      (leaf-full (f .parts) (length scratch) (f .state) v l c fit e (omega (arith, s .count))
-                      (rw (le-leb 1 l a, le-leb l labelLimit b) refl) (sym (s .count) ∙ w))
+                      (leaf-full (f .parts) (length scratch) (f .state) v l c (fit s) e (in-use s h)
+                      (says-true (says-label l) (a, b)) (sym (s .count) ∙ w))
                   | no w ↦ leaf-served e h a b w
                 ]
           ]
@@ -166,30 +146,81 @@ module _ {c : ℕ} {f : Fast} {p : PlainList} {total : ℕ} (s : Stands c f p to
       ]
     ]
 
-  -- Root
+  -- 01's new root
 
   module _ (scratch : List ℕ) where
-    root-refused : (r : Refusal) → plainOutcome c p (plainRoot (length scratch)) ≡ record { reply = plainRefused (numberOf r); after = p }
+    root-refused : (r : Refusal) → plainOutcome c p (plainRoot (length scratch)) ≡ refusalOf (numberOf r) p
         → Refuse r ≡ rootPlan (f .parts) (length scratch) (f .state)
-        → StepStands c f total (root scratch) (plainOutcome c p (plainRoot (length scratch))) (step f (root scratch))
+        → StepStands c f total joinings (root scratch) (plainOutcome c p (plainRoot (length scratch))) (step f (root scratch))
     unfolding step addRoot
-    root-refused r e i = steps-by s (root scratch) (plainRefused (numberOf r)) (refused (numberOf r)) e (refused-by r _ i)
-        (still-refused s (root scratch) (numberOf r))
+    root-refused r e i = grown-refused s (root scratch) r _ e i
 
-    root-served : length scratch ≡ c → countOf p ≢ c
-        → StepStands c f total (root scratch) (plainOutcome c p (plainRoot (length scratch))) (step f (root scratch))
+    root-served-first : length scratch ≡ c → countOf p ≢ c → countOf p ≡ 0
+        → StepStands c f total joinings (root scratch) (plainOutcome c p (plainRoot (length scratch))) (step f (root scratch))
     unfolding step
-    root-served e n =
-        let room : f .state .count < c = omega (arith, s .count, s .proper .room) in
-        let x = root-exact (f .parts) (f .state) (s .fits) (s .rules) (length scratch) e room in
-        rw (plainly.root-served c p (length scratch) e n) (grown-step room x asks-root (root-next room x))
+    root-served-first e n z =
+        let k : f .state .count ≡ 0 = sym (s .count) ∙ z in
+        let x = root-first-exact (f .parts) (f .state) (s .fits) (s .rules) (room n) (length scratch) e k in
+        rw (plainly.root-served-first c p (length scratch) e n z) (started-step s _ x (begins-root k) (first-next n x))
 
-    pub root-step : StepStands c f total (root scratch) (plainOutcome c p (plainRoot (length scratch))) (step f (root scratch))
+    root-served : length scratch ≡ c → countOf p ≢ c → countOf p ≢ 0
+        → StepStands c f total joinings (root scratch) (plainOutcome c p (plainRoot (length scratch))) (step f (root scratch))
+    unfolding step
+    root-served e n z =
+        let l : 0 < countOf p = omega arith in
+        let x = root-exact (f .parts) (f .state) (s .fits) (s .rules) (length scratch) e (room n) (in-use s l) in
+        let t : parentOf p (rootOf (tableIn f) 0) ≡ none = ap (parentOf p) (sym (root-shown s 0 l)) ∙ root-first (s .proper) 0 l .top in
+        rw (plainly.root-served c p (length scratch) e n z, root-shown s 0 l) (grown-step s _ x asks-root (root-next n (root-known s 0 l) t x))
+
+    pub root-step : StepStands c f total joinings (root scratch) (plainOutcome c p (plainRoot (length scratch))) (step f (root scratch))
     root-step = elim (ℕ-discrete (length scratch) c) [
-      | no d ↦ root-refused Misfit (plainly.root-misfit c p (length scratch) d) (root-scratch (f .parts) (length scratch) (f .state) c fit d)
+      | no d ↦ root-refused Misfit (plainly.root-misfit c p (length scratch) d) (root-scratch (f .parts) (length scratch) (f .state) c (fit s) d)
       | yes e ↦ elim (ℕ-discrete (countOf p) c) [
         | yes w ↦ root-refused Full (plainly.root-full c p (length scratch) e w)
-            (root-full (f .parts) (length scratch) (f .state) c fit e (sym (s .count) ∙ w))
-        | no w ↦ root-served e w
+            (root-full (f .parts) (length scratch) (f .state) c (fit s) e (sym (s .count) ∙ w))
+        | no w ↦ elim (ℕ-discrete (countOf p) 0) [ yes z ↦ root-served-first e w z | no z ↦ root-served e w z ]
+      ]
+    ]
+
+  -- A new root over x
+
+  module _ (x : ℕ) (scratch : List ℕ) where
+    over-refused : (r : Refusal) → plainOutcome c p (plainOver x (length scratch)) ≡ refusalOf (numberOf r) p
+        → Refuse r ≡ overPlan (f .parts) (length scratch) (f .state) x
+        → StepStands c f total joinings (rootOver x scratch) (plainOutcome c p (plainOver x (length scratch))) (step f (rootOver x scratch))
+    unfolding step addOver
+    over-refused r e i = grown-refused s (rootOver x scratch) r _ e i
+
+    over-served : length scratch ≡ c → x < countOf p → parentOf p x ≡ none → countOf p ≢ c
+        → StepStands c f total joinings (rootOver x scratch) (plainOutcome c p (plainOver x (length scratch))) (step f (rootOver x scratch))
+    unfolding step
+    over-served e h t n =
+        let y = over-exact (f .parts) (f .state) (s .fits) (s .rules) (length scratch) e (room n) x (in-use s h) (top-root s h t) in
+        rw (plainly.over-served c p x (length scratch) e h t n) (grown-step s _ y asks-over (root-next n h t y))
+
+    over-known : length scratch ≡ c → x < countOf p
+        → StepStands c f total joinings (rootOver x scratch) (plainOutcome c p (plainOver x (length scratch))) (step f (rootOver x scratch))
+    over-known e h =
+        let g = standing-is (f .parts) (f .state) (s .rules) in
+        let l = in-use s h in
+        let some = rooted (f .parts) (f .state) (s .fits) (s .rules) x l in
+        let read = root-is (f .parts) (f .state .count) (s .rules) (s .fits .most) x l in
+        elim (ℕ-discrete (parentOf p x) none) [
+          | no d ↦ over-refused NotRoot (plainly.over-no-root c p x (length scratch) e h d)
+              (over-other (f .parts) (length scratch) (f .state) x c (fit s) e l g some (λ z. d (root-top s h (sym read ∙ z))))
+          | yes t ↦ elim (ℕ-discrete (countOf p) c) [
+            | yes w ↦ over-refused Full (plainly.over-full c p x (length scratch) e h t w)
+                (over-full (f .parts) (length scratch) (f .state) x c (fit s) e l g some (read ∙ top-root s h t) (sym (s .count) ∙ w))
+            | no w ↦ over-served e h t w
+          ]
+        ]
+
+    pub over-step : StepStands c f total joinings (rootOver x scratch) (plainOutcome c p (plainOver x (length scratch))) (step f (rootOver x scratch))
+    over-step = elim (ℕ-discrete (length scratch) c) [
+      | no d ↦ over-refused Misfit (plainly.over-misfit c p x (length scratch) d) (over-scratch (f .parts) (length scratch) (f .state) x c (fit s) d)
+      | yes e ↦ elim (decLt x (countOf p)) [
+        | no d ↦ over-refused UnknownNode (plainly.over-unknown c p x (length scratch) e (omega arith))
+            (over-unknown (f .parts) (length scratch) (f .state) x c (fit s) e (omega (arith, s .count)))
+        | yes h ↦ over-known e h
       ]
     ]

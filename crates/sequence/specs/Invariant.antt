@@ -17,15 +17,14 @@ use Rattle.plain_list.specs.Proper.{Proper, proper-empty}
 use Rattle.plain_list.specs.Shows.{Shows, shows-empty}
 use Rattle.sequence.specs.Run.{Fast, tableIn, start}
 
--- f, at capacity c, stands beside the plain list p after growths that renumbered so many rows in total
-pub record Stands (c : ℕ) (f : Fast) (p : PlainList) (total : ℕ) : Type 0 where
+-- f, at capacity c, stands beside the plain list p after calls that renumbered so many rows in total, in so many joinings
+pub record Stands (c : ℕ) (f : Fast) (p : PlainList) (total joinings : ℕ) : Type 0 where
   pub fits : Fits c (f .parts)
   pub rules : Rules c (tableIn f)
   pub proper : Proper c p
   pub shows : Shows (plain (tableIn f)) (label (tableIn f)) p
   pub count : countOf p ≡ f .state .count
-  pub root : p .root ≡ f .state .root
-  pub paid : Paid (tableIn f) total
+  pub paid : Paid (tableIn f) total joinings
 
 -- At the start
 
@@ -44,13 +43,12 @@ pub start-fits : (c : ℕ) (parts : Parts) → Fits c parts → Fits c (partsAft
 unfolding partsAfter
 start-fits c parts f = rw (fits-told f) (blank-fits c parts f)
 
-pub start-stands : (c : ℕ) (parts : Parts) → Fits c parts → Stands c (start parts) emptyList 0
+pub start-stands : (c : ℕ) (parts : Parts) → Fits c parts → Stands c (start parts) emptyList 0 0
 start-stands c parts f = record {
   fits = start-fits c parts f;
-  rules = empty-rules c (tableIn (start parts)) refl refl;
+  rules = empty-rules c (tableIn (start parts)) refl;
   proper = proper-empty;
   shows = shows-empty (plain (tableIn (start parts))) (label (tableIn (start parts)));
   count = refl;
-  root = refl;
   paid = total-empty (tableIn (start parts)) refl;
 }

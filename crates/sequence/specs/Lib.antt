@@ -3,6 +3,9 @@ pub mod Run
 pub mod Agrees
 pub mod Invariant
 pub mod StepExact
+pub mod Trees
 pub mod AskedSteps
+pub mod Growths
 pub mod GrowthSteps
+pub mod LinkSteps
 pub mod SequenceExact

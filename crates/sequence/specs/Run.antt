@@ -2,7 +2,6 @@
 use mathlib.Core.List.{List, [], _∷_}
 use Prim.Native.Nat.{ℕ, _+_}
 use lib.ListN.{length}
-use Rattle.tree_laws.specs.Ancestor.{none}
 use Rattle.rows.specs.declared.state.State.{State}
 use Rattle.rows.specs.Refusal.{numberOf}
 use Rattle.rows.specs.Row.{Parts}
@@ -10,7 +9,10 @@ use Rattle.rows.specs.Table.{Table, tableOf}
 use Rattle.set_up.specs.Blank.{partsAfter}
 use Rattle.growth.specs.declared.Grown.{Grown}
 use Rattle.growth.specs.declared.Grown.the-variants.{Node, Refused as NotGrown}
-use Rattle.growth.specs.Growth.{Outcome as GrowthOutcome, addLeaf, addRoot}
+use Rattle.growth.specs.Growth.{Outcome as GrowthOutcome, addFirst, addLeaf, addRoot, addOver}
+use Rattle.link.specs.declared.Linked.{Linked}
+use Rattle.link.specs.declared.Linked.the-variants.{Under, Refused as NotLinked}
+use Rattle.link.specs.Link.{Outcome as LinkOutcome, linkBy}
 use Rattle.query.specs.Outcome.{Outcome as QuestionOutcome, refusal as noAnswer, answer}
 use Rattle.query.specs.Question.{question as ask}
 use Rattle.alike.specs.Outcome.{Outcome as AlikeOutcome, refusal as noValue, value}
@@ -18,20 +20,20 @@ use Rattle.alike.specs.Alike.{alike as compare}
 use Rattle.inspect.specs.declared.Inspected.{Inspected}
 use Rattle.inspect.specs.declared.Inspected.the-variants.{Passes, Refused as NotInspected}
 use Rattle.inspect.specs.Inspection.{inspection as inspect}
-use Rattle.sequence.specs.Calls.{Call, leaf, root, question, alike, inspection, Reply, refused, grown, answered, same, inspected}
+use Rattle.sequence.specs.Calls.{Call, first, leaf, root, rootOver, link, question, alike, inspection, Reply, refused, grown, linked, answered, same, inspected}
 
--- the lent parts, with their count and root
+-- the lent parts, with their count
 pub record Fast : Type 0 where
   pub parts : Parts
   pub state : State
 
 -- the table that they stand for
 abbrev pub tableIn : Fast → Table
-tableIn f = tableOf (f .parts) (f .state .count) (f .state .root)
+tableIn f = tableOf (f .parts) (f .state .count)
 
 -- what set-up leaves in these parts
 abbrev pub start : Parts → Fast
-start parts = record { parts = partsAfter parts; state = record { count = 0; root = none } }
+start parts = record { parts = partsAfter parts; state = record { count = 0 } }
 
 -- the reply to a call, and what stands after it
 pub record Turn : Type 0 where
@@ -42,7 +44,7 @@ pub record Turn : Type 0 where
 abbrev pub replies : Fast → Reply → Turn
 replies f r = record { reply = r; after = f }
 
--- a growth: count and root as it returned them, after a refusal as they went in
+-- a growth: the count as it returned it, after a refusal as it went in
 abbrev pub grownReply : Grown → Reply
 grownReply (Node n) = grown (n .node) (n .rows)
 grownReply (NotGrown r) = refused (numberOf r)
@@ -53,6 +55,14 @@ stateAfter s (NotGrown r) = s
 
 abbrev pub afterGrowth : State → GrowthOutcome → Turn
 afterGrowth s o = record { reply = grownReply (o .grown); after = record { parts = o .parts; state = stateAfter s (o .grown) } }
+
+-- a link keeps the count
+abbrev pub linkReply : Linked → Reply
+linkReply (Under l) = linked (l .rows)
+linkReply (NotLinked r) = refused (numberOf r)
+
+abbrev pub afterLink : State → LinkOutcome → Turn
+afterLink s o = record { reply = linkReply (o .linked); after = record { parts = o .parts; state = s } }
 
 abbrev pub questionReply : QuestionOutcome → Reply
 questionReply (noAnswer n) = refused n
@@ -68,8 +78,11 @@ inspectionReply (NotInspected r) = refused (numberOf r)
 
 -- one call
 unfoldable pub step : Fast → Call → Turn
+step f (first s) = afterGrowth (f .state) (addFirst (f .parts) (length s) (f .state))
 step f (leaf v l s) = afterGrowth (f .state) (addLeaf (f .parts) (length s) (f .state) v l)
 step f (root s) = afterGrowth (f .state) (addRoot (f .parts) (length s) (f .state))
+step f (rootOver x s) = afterGrowth (f .state) (addOver (f .parts) (length s) (f .state) x)
+step f (link x v door s) = afterLink (f .state) (linkBy (f .parts) (length s) (f .state) x v door)
 step f (question x y) = replies f (questionReply (ask (f .parts) (f .state) x y))
 step f (alike x y) = replies f (alikeReply (compare (f .parts) (f .state) x y))
 step f (inspection s) = replies f (inspectionReply (inspect (f .parts) (length s) (f .state)))
@@ -88,6 +101,7 @@ run f (q ∷ qs) = let rest = run (step f q .after) qs in record { replies = ste
 abbrev pub rowsIn : Reply → ℕ
 rowsIn (refused n) = 0
 rowsIn (grown n k) = k
+rowsIn (linked k) = k
 rowsIn (answered a u v i j l) = 0
 rowsIn (same b) = 0
 rowsIn (inspected b) = 0

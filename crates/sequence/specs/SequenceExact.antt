@@ -1,10 +1,9 @@
--- Demand 3 (01, "Demand 3 and the plain list"): a list of calls, of any length, from what set-up leaves, gives the outcomes of the plain list.
--- All of it is one claim about the list.
+-- Demand 3 (01, "Demand 3 and the plain list"; 02, "Coupled rooms"): a list of calls, of any length, from what set-up leaves, gives the outcomes of the
+-- plain list. All of it is one claim about the list.
 use mathlib.Core.Path.{_≡_}
 use mathlib.Core.List.{List, [], _∷_}
 use Prim.Native.Nat.{ℕ, _+_, _*_, _≤_}
 use native.Mathlib.Omega.{arith}
-use Rattle.tree_laws.specs.Ancestor.{none}
 use Rattle.rows.specs.Row.{Parts}
 use Rattle.rows.specs.Capacity.{Fits}
 use Rattle.rows.specs.Rules.{Rules}
@@ -13,17 +12,18 @@ use Rattle.rows.specs.PlainTree.{plain}
 use Rattle.set_up.specs.declared.Made.the-variants.{Empty}
 use Rattle.set_up.specs.Blank.{setUp}
 use Rattle.set_up.specs.BlankLaws.{set-up-served}
-use Rattle.growth_laws.specs.GrowthPays.{total-most}
 use Rattle.plain_list.specs.PlainList.{PlainList, emptyList, countOf}
 use Rattle.plain_list.specs.PlainStep.{plainOutcome, plainAfter, plainRun}
 use Rattle.plain_list.specs.Shows.{Shows}
-use Rattle.sequence.specs.Calls.{Call, leaf, root, question, alike, inspection, told, toldAll}
+use Rattle.plain_list.specs.Joinings.{Unlinked, joinings-count}
+use Rattle.sequence.specs.Calls.{Call, first, leaf, root, rootOver, link, question, alike, inspection, told, toldAll}
 use Rattle.sequence.specs.Run.{Fast, tableIn, start, step, run, totalIn}
 use Rattle.sequence.specs.Agrees.{AllAgree, end, next}
 use Rattle.sequence.specs.Invariant.{Stands, start-stands}
 use Rattle.sequence.specs.StepExact.{StepExact, StepStands}
 use Rattle.sequence.specs.AskedSteps.{question-step, alike-step, inspection-step}
-use Rattle.sequence.specs.GrowthSteps.{leaf-step, root-step}
+use Rattle.sequence.specs.GrowthSteps.{first-step, leaf-step, root-step, over-step}
+use Rattle.sequence.specs.LinkSteps.{link-step}
 
 -- each call of the list, on what the calls before it left, is exact
 pub data EachExact (c : ℕ) : Fast → PlainList → List Call → Type 0 where
@@ -31,56 +31,60 @@ pub data EachExact (c : ℕ) : Fast → PlainList → List Call → Type 0 where
   then : {f : Fast} {p : PlainList} {q : Call} {qs : List Call} → StepExact c f q (plainOutcome c p (told q)) (step f q)
       → EachExact c (step f q .after) (plainAfter c p (told q)) qs → EachExact c f p (q ∷ qs)
 
--- over all growths, at most so many rows are renumbered for each node
-abbrev pub rowsPerNode : ℕ
-rowsPerNode = 120
+-- over all calls, at most so many rows are renumbered for each joining
+abbrev pub rowsPerJoining : ℕ
+rowsPerJoining = 120
 
 -- the calls, one after another, from what set-up leaves in parts of capacity c
 pub record SequenceExact (c : ℕ) (parts : Parts) (calls : List Call) : Type 0 where
   -- set-up is never refused
-  pub setUp : setUp parts ≡ Empty (record { count = 0; root = none })
+  pub setUp : setUp parts ≡ Empty (record { count = 0 })
   -- every reply is the plain list's
   pub replies : AllAgree (plainRun c emptyList (toldAll calls) .replies) (run (start parts) calls .replies)
-  -- each question draws on few rows, each served growth answers the rows at or below its head in the stored tree, and a refusal changes nothing
+  -- each question draws on few rows, each served growth answers the rows at or below its head in the stored tree, each served link
+  -- those of its joinings, and a refusal changes nothing
   pub each : EachExact c (start parts) emptyList calls
-  -- the rows renumbered by all growths together
-  pub total : totalIn (run (start parts) calls .replies) ≤ rowsPerNode * run (start parts) calls .last .state .count
-  -- at the end the table passes inspection, and its count, root, plain tree and labels are the plain list's
+  -- the rows renumbered by all calls together
+  pub total : totalIn (run (start parts) calls .replies) ≤ rowsPerJoining * plainRun c emptyList (toldAll calls) .joinings
+  -- at the end the table passes inspection, and its count, plain trees and labels are the plain list's
   pub rules : Rules c (tableIn (run (start parts) calls .last))
   pub count : countOf (plainRun c emptyList (toldAll calls) .last) ≡ run (start parts) calls .last .state .count
-  pub root : plainRun c emptyList (toldAll calls) .last .root ≡ run (start parts) calls .last .state .root
   pub shows : Shows (plain (tableIn (run (start parts) calls .last))) (label (tableIn (run (start parts) calls .last))) (plainRun c emptyList (toldAll calls) .last)
 
 -- One call
 
-module _ {c : ℕ} {f : Fast} {p : PlainList} {total : ℕ} (s : Stands c f p total) where
-  pub step-exact : (q : Call) → StepStands c f total q (plainOutcome c p (told q)) (step f q)
+module _ {c : ℕ} {f : Fast} {p : PlainList} {total joinings : ℕ} (s : Stands c f p total joinings) where
+  pub step-exact : (q : Call) → StepStands c f total joinings q (plainOutcome c p (told q)) (step f q)
+  step-exact (first scratch) = first-step s scratch
   step-exact (leaf v l scratch) = leaf-step s v l scratch
   step-exact (root scratch) = root-step s scratch
+  step-exact (rootOver x scratch) = over-step s x scratch
+  step-exact (link x v door scratch) = link-step s x v door scratch
   step-exact (question x y) = question-step s x y
   step-exact (alike x y) = alike-step s x y
   step-exact (inspection scratch) = inspection-step s scratch
 
 -- From wherever the table stands beside the plain list
 
-record RunExact (c : ℕ) (f : Fast) (p : PlainList) (total : ℕ) (calls : List Call) : Type 0 where
+record RunExact (c : ℕ) (f : Fast) (p : PlainList) (total joinings : ℕ) (calls : List Call) : Type 0 where
   replies : AllAgree (plainRun c p (toldAll calls) .replies) (run f calls .replies)
   each : EachExact c f p calls
   stands : Stands c (run f calls .last) (plainRun c p (toldAll calls) .last) (total + totalIn (run f calls .replies))
+      (joinings + plainRun c p (toldAll calls) .joinings)
 
-stands-total : {c : ℕ} {f : Fast} {p : PlainList} {m n : ℕ} → m ≡ n → Stands c f p m → Stands c f p n
-stands-total e s = rw (← e) s
+stands-at : {c : ℕ} {f : Fast} {p : PlainList} {m n i j : ℕ} → m ≡ n → i ≡ j → Stands c f p m i → Stands c f p n j
+stands-at e d s = rw (← e, ← d) s
 
-run-exact : {c : ℕ} {f : Fast} {p : PlainList} {total : ℕ} → Stands c f p total → (calls : List Call) → RunExact c f p total calls
+run-exact : {c : ℕ} {f : Fast} {p : PlainList} {total joinings : ℕ} → Stands c f p total joinings → (calls : List Call) → RunExact c f p total joinings calls
 unfolding plainRun run toldAll totalIn
-run-exact {total = total} s [] = record { replies = end; each = done; stands = stands-total (omega arith) s }
-run-exact {c} {f} {p} {total} s (q ∷ qs) =
+run-exact s [] = record { replies = end; each = done; stands = stands-at (omega arith) (omega arith) s }
+run-exact {c} {f} {p} s (q ∷ qs) =
     let one = step-exact s q in
     let rest = run-exact (one .stands) qs in
     record {
       replies = next (one .exact .agrees) (rest .replies);
       each = then (one .exact) (rest .each);
-      stands = stands-total (omega arith) (rest .stands);
+      stands = stands-at (omega arith) (omega arith) (rest .stands);
     }
 
 -- The theorem
@@ -93,9 +97,15 @@ sequence-exact c parts f calls =
       setUp = set-up-served parts c f;
       replies = r .replies;
       each = r .each;
-      total = omega (arith, total-most (tableIn (run (start parts) calls .last)) (0 + totalIn (run (start parts) calls .replies)) (s .paid));
+      total = omega (arith, s .paid);
       rules = s .rules;
       count = s .count;
-      root = s .root;
       shows = s .shows;
     }
+
+-- What follows from it
+
+-- where no tree was linked, at most 120 rows are renumbered for each node (01)
+pub total-nodes : {c : ℕ} {parts : Parts} {calls : List Call} → SequenceExact c parts calls → Unlinked (plainRun c emptyList (toldAll calls) .replies)
+    → totalIn (run (start parts) calls .replies) ≤ rowsPerJoining * run (start parts) calls .last .state .count
+total-nodes {c} {calls = calls} e u = omega (arith, e .total, e .count, joinings-count c (toldAll calls) u)

@@ -1,4 +1,4 @@
--- What one call does, where the table stands beside the plain list (01, "Demand 3 and the plain list").
+-- What one call does, where the table stands beside the plain list (01, "Demand 3 and the plain list"; 02, "Coupled rooms").
 use mathlib.Core.Path.{_≡_, refl}
 use mathlib.Core.Logic.{_≢_}
 use mathlib.Core.List.{List}
@@ -6,32 +6,41 @@ use Prim.Native.Nat.{ℕ, _+_}
 use native.Mathlib.Omega.{arith}
 use Rattle.rows.specs.Row.{Parts}
 use Rattle.rows.specs.Table.{Table}
+use Rattle.rows.specs.PlainTree.{root as rootOf}
 use Rattle.rows.specs.Capacity.{Fits}
 use Rattle.rows.specs.declared.state.State.{State}
 use Rattle.query.specs.FewRows.{DrawsOn}
 use Rattle.query.specs.FewRowsLaws.{question-few-rows}
 use Rattle.growth_laws.specs.Growth.{Growth, leaf as newLeaf, root as newRoot}
-use Rattle.growth_laws.specs.Grown.{Grown}
+use Rattle.growth_laws.specs.Grown.{Grown, Started}
 use Rattle.growth_laws.specs.Renumbered.{rows}
+use Rattle.link_laws.specs.Link.{Linked}
 use Rattle.plain_list.specs.PlainList.{PlainList}
-use Rattle.plain_list.specs.PlainStep.{PlainReply, PlainOutcome}
-use Rattle.sequence.specs.Calls.{Call, leaf, root, question, Reply, refused, grown}
+use Rattle.plain_list.specs.PlainStep.{PlainReply, PlainOutcome, replies as plainReplies}
+use Rattle.sequence.specs.Calls.{Call, first, leaf, root, rootOver, link, question, Reply, refused, grown, linked}
 use Rattle.sequence.specs.Run.{Fast, tableIn, Turn, replies, rowsIn}
 use Rattle.sequence.specs.Agrees.{Agrees}
 use Rattle.sequence.specs.Invariant.{Stands}
 
--- the growth that a call asks for
-pub data Asks : Call → Growth → Type 0 where
-  asks-leaf : {v l : ℕ} {s : List ℕ} → Asks (leaf v l s) (newLeaf v l)
-  asks-root : {s : List ℕ} → Asks (root s) newRoot
+-- the growth of table t that a call asks for; 01's new root goes over that of the tree of node 0
+pub data Asks (t : Table) : Call → Growth → Type 0 where
+  asks-leaf : {v l : ℕ} {s : List ℕ} → Asks t (leaf v l s) (newLeaf v l)
+  asks-root : {s : List ℕ} → Asks t (root s) (newRoot (rootOf t 0))
+  asks-over : {x : ℕ} {s : List ℕ} → Asks t (rootOver x s) (newRoot x)
 
--- by call q table t became table d, and k is how many rows were renumbered: the head, and all rows below it in the stored tree
-pub record Renumbers (t d : Table) (q : Call) (k : ℕ) : Type 0 where
-  pub growth : Growth
-  pub asked : Asks q growth
-  pub head : ℕ
-  pub grown : Grown t d growth head
-  pub rows : k ≡ rows d head
+-- a call that begins a tree; 01's new root does where there is no node
+pub data Begins (t : Table) : Call → Type 0 where
+  begins-first : {s : List ℕ} → Begins t (first s)
+  begins-root : {s : List ℕ} → t .count ≡ 0 → Begins t (root s)
+
+-- by call q table t became table d, and k is how many rows were renumbered
+pub data Renumbers (t d : Table) (k : ℕ) : Call → Type 0 where
+  -- by a growth: its head, and all rows below it in the stored tree
+  growth : {q : Call} {g : Growth} (head : ℕ) → Asks t q g → Grown t d g head → k ≡ rows d head → Renumbers t d k q
+  -- by a first node: its own row
+  start : {q : Call} → Begins t q → Started t d → k ≡ 1 → Renumbers t d k q
+  -- by a link: those of all its joinings, added up
+  joinings : {x v door : ℕ} {s : List ℕ} → Linked t d x v door k → Renumbers t d k (link x v door s)
 
 -- a question draws on at most so many rows
 abbrev pub mostRows : ℕ
@@ -43,15 +52,17 @@ pub record StepExact (c : ℕ) (f : Fast) (q : Call) (o : PlainOutcome) (u : Tur
   pub agrees : Agrees (o .reply) (u .reply)
   -- a question draws on few rows
   pub few : (x y : ℕ) → q ≡ question x y → DrawsOn mostRows c (f .parts) (f .state) x y
-  -- a served growth renumbers its head and all rows below it in the stored tree, and answers how many these are
-  pub renumbers : (n k : ℕ) → u .reply ≡ grown n k → Renumbers (tableIn f) (tableIn (u .after)) q k
-  -- a refusal leaves parts, count and root as they went in
+  -- a served growth renumbers its head and all rows below it in the stored tree, a first node itself, and it answers how many these are
+  pub renumbers : (n k : ℕ) → u .reply ≡ grown n k → Renumbers (tableIn f) (tableIn (u .after)) k q
+  -- and so does a served link
+  pub links : (k : ℕ) → u .reply ≡ linked k → Renumbers (tableIn f) (tableIn (u .after)) k q
+  -- a refusal leaves parts and count as they went in
   pub kept : (n : ℕ) → u .reply ≡ refused n → u .after ≡ f
 
 -- the same, and the tables stand beside the plain list again
-pub record StepStands (c : ℕ) (f : Fast) (total : ℕ) (q : Call) (o : PlainOutcome) (u : Turn) : Type 0 where
+pub record StepStands (c : ℕ) (f : Fast) (total joinings : ℕ) (q : Call) (o : PlainOutcome) (u : Turn) : Type 0 where
   pub exact : StepExact c f q o u
-  pub stands : Stands c (u .after) (o .after) (total + rowsIn (u .reply))
+  pub stands : Stands c (u .after) (o .after) (total + rowsIn (u .reply)) (joinings + o .joined)
 
 -- Laws
 
@@ -59,17 +70,15 @@ pub few-rows : {c : ℕ} (a : Parts) → Fits c a → (s : State) (x y : ℕ) �
 few-rows a f s x y = let d = question-few-rows a f s x y in record { rows = d .rows; few = omega (arith, d .few); decide = d .decide }
 
 -- a call that changes nothing and renumbers nothing
-pub still : {c : ℕ} {f : Fast} {p : PlainList} {total : ℕ} → Stands c f p total → (q : Call) {r : PlainReply} {u : Reply} → Agrees r u
-    → rowsIn u ≡ 0 → ((n k : ℕ) → u ≢ grown n k) → StepStands c f total q (record { reply = r; after = p }) (replies f u)
-still {c} {f} {p} {total} s q {r} {u} a z d = record {
-  exact = record { agrees = a; few = λ x y _. few-rows (f .parts) (s .fits) (f .state) x y; renumbers = λ n k e. absurd (d n k e); kept = λ n e. refl };
-  stands = record {
-    fits = s .fits;
-    rules = s .rules;
-    proper = s .proper;
-    shows = s .shows;
-    count = s .count;
-    root = s .root;
-    paid = omega (arith, s .paid);
+pub still : {c : ℕ} {f : Fast} {p : PlainList} {total joinings : ℕ} → Stands c f p total joinings → (q : Call) {r : PlainReply} {u : Reply} → Agrees r u
+    → rowsIn u ≡ 0 → ((n k : ℕ) → u ≢ grown n k) → ((k : ℕ) → u ≢ linked k) → StepStands c f total joinings q (plainReplies r p) (replies f u)
+still {c} {f} {p} {total} {joinings} s q {r} {u} a z d i = record {
+  exact = record {
+    agrees = a;
+    few = λ x y _. few-rows (f .parts) (s .fits) (f .state) x y;
+    renumbers = λ n k e. absurd (d n k e);
+    links = λ k e. absurd (i k e);
+    kept = λ n e. refl;
   };
+  stands = record { fits = s .fits; rules = s .rules; proper = s .proper; shows = s .shows; count = s .count; paid = omega (arith, s .paid) };
 }

@@ -41,6 +41,7 @@ use Rattle.growth.specs.Plan.{
   upperFor,
   oldHead,
   headOf,
+  isFirst,
   isSeated,
   isWhole,
   plannedAt,
@@ -51,8 +52,10 @@ use Rattle.growth.specs.Plan.{
   rootWithin,
   rootPlan,
 }
-use Rattle.growth.specs.Store.{storedBy}
-use Rattle.growth.specs.Growth.{served, grownBy, addLeaf, addRoot}
+use Rattle.growth.specs.Lone.{loneFields, loneNumbers, loneEntries}
+use Rattle.growth.specs.Store.{recorded, storedBy}
+use Rattle.growth.specs.Growth.{served, startedFields, started as treeStarted, grownBy, addLeaf, addRoot}
+use Rattle.query.specs.Sought.{soughtIn}
 use Rattle.query.specs.Reading.{isRow, covers}
 use Rattle.query.specs.CompressedStep.{arrive, climb, atEntry, pastEntry, pastReach, pastSpan, sideFrom}
 use Rattle.query.specs.StoredAnswer.{isOnRow, forked, meeting, branchOf, join, between, storedFrom}
@@ -75,9 +78,9 @@ unfolding cases fourth
     oneMore turn arrival sizeEntered heavyKept sizeLeft offeredTo sizeTurn sizeWalk lightOrLast siblingOrUp heavyLast placedRow started rowNumbered
     isOnPath upperOf sizeOf numberedDown numberedTo numberWalk entriesFrom aboveOf withEntries renumbered
     isGood levelOf outgrownAt topFrom raisedAt raised isReadable entered leftRow checkTurn checkWalk firstOf firstAfter nextAfter parentAfter newLinks
-    newValues linked attached upperUnder upperFor oldHead headOf isSeated isWhole plannedAt plannedRow leafWithin leafPlan rootOver rootWithin
-    rootPlan storedBy served grownBy addLeaf addRoot
-    isRow covers arrive climb atEntry pastEntry pastReach pastSpan sideFrom isOnRow forked meeting branchOf join between storedFrom
+    newValues linked attached upperUnder upperFor oldHead headOf isFirst isSeated isWhole plannedAt plannedRow leafWithin leafPlan rootOver rootWithin
+    rootPlan loneFields loneNumbers loneEntries recorded storedBy served startedFields treeStarted grownBy addLeaf addRoot
+    soughtIn isRow covers arrive climb atEntry pastEntry pastReach pastSpan sideFrom isOnRow forked meeting branchOf join between storedFrom
     isAbove leadsOn lowerX lowerY lowered areRows plainFrom plainAnswer isServed answerServed asked question
     step run totalIn
 starred-cases = (refl, (refl, (refl, (refl, tt))))

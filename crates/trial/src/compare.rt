@@ -5,6 +5,7 @@ use crate::naive::depth;
 use crate::naive::minus;
 use crate::naive::nca;
 use crate::naive::of;
+use crate::naive::root_of;
 use crate::tally::Tally;
 use crate::tally::noted;
 use alike::Compared;
@@ -50,6 +51,25 @@ fn are_nodes(count: u16, x: u16, y: u16) -> bool {
     y < count
 }
 
+// The plain list's refusal of a question, or 0.
+fn refusal(parents: &[u16], count: u16, x: u16, y: u16) -> u16 {
+    if !are_nodes(count, x, y) {
+        return 1;
+    }
+    if root_of(parents, x) != root_of(parents, y) {
+        return 12;
+    }
+    0
+}
+
+// Whether a refusal is the plain list's.
+fn is_refusal(expected: u16, found: u16) -> bool {
+    if expected == 0 {
+        return false;
+    }
+    found == expected
+}
+
 fn agrees_on_query(
     parents: &[u16],
     labels: &[u16],
@@ -58,10 +78,10 @@ fn agrees_on_query(
     y: u16,
     found: Answered,
 ) -> bool {
-    let known = are_nodes(count, x, y);
+    let expected = refusal(parents, count, x, y);
     match found {
-        Answered::Answer(a) => known && is_answer(parents, labels, x, y, a),
-        Answered::Refused(r) => !known && number_of(r) == 1,
+        Answered::Answer(a) => expected == 0 && is_answer(parents, labels, x, y, a),
+        Answered::Refused(r) => is_refusal(expected, number_of(r)),
     }
 }
 
@@ -73,10 +93,10 @@ fn agrees_on_labels(
     y: u16,
     found: Compared,
 ) -> bool {
-    let known = are_nodes(count, x, y);
+    let expected = refusal(parents, count, x, y);
     match found {
-        Compared::Same(same) => known && same == alike(parents, labels, x, y),
-        Compared::Refused(r) => !known && number_of(r) == 1,
+        Compared::Same(same) => expected == 0 && same == alike(parents, labels, x, y),
+        Compared::Refused(r) => is_refusal(expected, number_of(r)),
     }
 }
 

@@ -1,43 +1,101 @@
-// Growth of the engine's table and of the plain list side by side, with an inspection after each.
+// Growth of the engine's table and of the plain list side by side, and links, with an inspection after each.
+use crate::random::below;
 use crate::random::next;
-use crate::shape::is_root;
+use crate::shape::Kind;
+use crate::shape::is_link;
+use crate::shape::kind_of;
 use crate::shape::label;
+use crate::shape::named;
 use crate::shape::parent;
 use crate::tally::Tally;
 use crate::tally::noted;
 use crate::tree::Tree;
+use crate::tree::full_refusal;
 use crate::tree::leaf_refusal;
-use crate::tree::root_refusal;
+use crate::tree::link_refusal;
+use crate::tree::members_in;
+use crate::tree::over_refusal;
+use crate::tree::root_in;
+use crate::tree::with_first;
 use crate::tree::with_leaf;
+use crate::tree::with_link;
+use crate::tree::with_over;
 use crate::tree::with_root;
 use growth::Grown;
 use growth::Growth;
+use growth::add_first;
 use growth::add_leaf;
 use growth::add_root;
+use growth::add_root_over;
 use inspect::Inspected;
 use inspect::inspect;
+use link::Linked;
+use link::link;
 use rows::refusal::number_of;
 use rows::state::State;
 
-// Both sides, and the rows renumbered so far.
+// Both sides, and the rows renumbered and the joinings so far.
 pub struct Run {
     pub state: State,
     pub tree: Tree,
     pub tally: Tally,
     pub total: u64,
+    pub joinings: u64,
     pub seed: u64,
 }
 
-fn plus(total: u64, rows: u16) -> u64 {
+fn plus(total: u64, more: u64) -> u64 {
     if total < 1000000000 {
-        total + rows as u64
-    } else {
-        total
+        if more < 1000000000 {
+            return total + more;
+        }
+    }
+    total
+}
+
+// At most 120 rows to a joining.
+fn is_paid(total: u64, joinings: u64) -> bool {
+    if 1000000000 <= joinings {
+        return false;
+    }
+    total <= 120 * joinings
+}
+
+// The run after a call that was refused.
+fn refused(run: Run, equal: bool, letter: u8, x: u16, y: u16) -> Run {
+    let tally = run.tally;
+    let mut r = run;
+    r.tally = noted(tally, equal, letter, x, y);
+    r
+}
+
+// The run after a call that was served: so many nodes joined, and so many rows were renumbered.
+fn served(
+    run: Run,
+    state: State,
+    after: Tree,
+    rows: u64,
+    joined: u64,
+    equal: bool,
+    letter: u8,
+    x: u16,
+    y: u16,
+) -> Run {
+    let tally = run.tally;
+    let total = plus(run.total, rows);
+    let joinings = plus(run.joinings, joined);
+    Run {
+        state: state,
+        tree: after,
+        tally: noted(tally, equal && is_paid(total, joinings), letter, x, y),
+        total: total,
+        joinings: joinings,
+        seed: run.seed,
     }
 }
 
-// Whether a served growth is the plain list's, and paid for: at most 120 rows to a node.
-fn is_growth(before: Tree, after: Tree, refusal: u16, total: u64, found: Growth) -> bool {
+// Whether a served growth is the plain list's.
+fn is_growth(before: Tree, after: Tree, refusal: u16, found: Growth) -> bool {
     let s = found.state;
     if refusal != 0 {
         return false;
@@ -45,13 +103,7 @@ fn is_growth(before: Tree, after: Tree, refusal: u16, total: u64, found: Growth)
     if found.node != before.count {
         return false;
     }
-    if s.count != after.count {
-        return false;
-    }
-    if s.root != after.root {
-        return false;
-    }
-    total <= 120 * (s.count as u64)
+    s.count == after.count
 }
 
 // The run after a growth; `refusal` is the plain list's, `after` its tree where it serves.
@@ -64,35 +116,29 @@ fn after_growth(
     x: u16,
     y: u16,
 ) -> Run {
-    let state = run.state;
     let before = run.tree;
-    let tally = run.tally;
     match found {
-        Grown::Refused(r) => Run {
-            state: state,
-            tree: before,
-            tally: noted(tally, number_of(r) == refusal, letter, x, y),
-            total: run.total,
-            seed: run.seed,
-        },
+        Grown::Refused(r) => refused(run, number_of(r) == refusal, letter, x, y),
         Grown::Node(g) => {
-            let total = plus(run.total, g.rows);
-            let grown = g.state;
-            Run {
-                state: grown,
-                tree: after,
-                tally: noted(
-                    tally,
-                    is_growth(before, after, refusal, total, g),
-                    letter,
-                    x,
-                    y,
-                ),
-                total: total,
-                seed: run.seed,
-            }
+            let state = g.state;
+            let equal = is_growth(before, after, refusal, g);
+            served(run, state, after, g.rows as u64, 1, equal, letter, x, y)
         }
     }
+}
+
+fn grow_first(
+    fields: &mut [u16],
+    numbers: &mut [u64],
+    levels: &mut [i32],
+    ancestors: &mut [u16],
+    scratch: &[u16],
+    run: Run,
+) -> Run {
+    let state = run.state;
+    let tree = run.tree;
+    let found = add_first(fields, numbers, levels, ancestors, scratch, state);
+    after_growth(run, full_refusal(tree), with_first(tree), found, b'F', 0, 0)
 }
 
 fn grow_leaf(
@@ -130,7 +176,30 @@ fn grow_root(
     let state = run.state;
     let tree = run.tree;
     let found = add_root(fields, numbers, levels, ancestors, scratch, state);
-    after_growth(run, root_refusal(tree), with_root(tree), found, b'T', 0, 0)
+    after_growth(run, full_refusal(tree), with_root(tree), found, b'T', 0, 0)
+}
+
+fn grow_over(
+    fields: &mut [u16],
+    numbers: &mut [u64],
+    levels: &mut [i32],
+    ancestors: &mut [u16],
+    scratch: &[u16],
+    run: Run,
+    x: u16,
+) -> Run {
+    let state = run.state;
+    let tree = run.tree;
+    let found = add_root_over(fields, numbers, levels, ancestors, scratch, state, x);
+    after_growth(
+        run,
+        over_refusal(tree, x),
+        with_over(tree, x),
+        found,
+        b'O',
+        x,
+        0,
+    )
 }
 
 // The growth of one turn.
@@ -150,11 +219,96 @@ fn grow(
     let third = next(second);
     let mut r = run;
     r.seed = third;
-    if is_root(shape, turn, first) {
-        return grow_root(fields, numbers, levels, ancestors, scratch, r);
-    }
     let x = parent(shape, tree.count, first, second);
-    grow_leaf(
+    match kind_of(shape, turn, first) {
+        Kind::First => grow_first(fields, numbers, levels, ancestors, scratch, r),
+        Kind::Root => grow_root(fields, numbers, levels, ancestors, scratch, r),
+        Kind::Over => {
+            let over = named(root_in(tree, x), x, third);
+            grow_over(fields, numbers, levels, ancestors, scratch, r, over)
+        }
+        Kind::Leaf => {
+            grow_leaf(
+                fields,
+                numbers,
+                levels,
+                ancestors,
+                scratch,
+                r,
+                x,
+                label(turn, third),
+            )
+        }
+    }
+}
+
+// The run after a link; `refusal` is the plain list's, `after` its trees where it serves.
+fn after_link(run: Run, refusal: u16, after: Tree, found: Linked, x: u16, v: u16) -> Run {
+    let state = run.state;
+    let before = run.tree;
+    match found {
+        Linked::Refused(r) => refused(run, number_of(r) == refusal, b'J', x, v),
+        Linked::Under(l) => {
+            let joined = members_in(before, x);
+            served(
+                run,
+                state,
+                after,
+                l.rows as u64,
+                joined,
+                refusal == 0,
+                b'J',
+                x,
+                v,
+            )
+        }
+    }
+}
+
+fn link_under(
+    fields: &mut [u16],
+    numbers: &mut [u64],
+    levels: &mut [i32],
+    ancestors: &mut [u16],
+    scratch: &mut [u16],
+    run: Run,
+    x: u16,
+    v: u16,
+    y: u16,
+) -> Run {
+    let state = run.state;
+    let tree = run.tree;
+    let found = link(fields, numbers, levels, ancestors, scratch, state, x, v, y);
+    after_link(
+        run,
+        link_refusal(tree, x, v, y),
+        with_link(tree, x, v, y),
+        found,
+        x,
+        v,
+    )
+}
+
+// The link of one turn.
+fn link_once(
+    fields: &mut [u16],
+    numbers: &mut [u64],
+    levels: &mut [i32],
+    ancestors: &mut [u16],
+    scratch: &mut [u16],
+    run: Run,
+    turn: u16,
+) -> Run {
+    let tree = run.tree;
+    let first = next(run.seed);
+    let second = next(first);
+    let third = next(second);
+    let mut r = run;
+    r.seed = third;
+    let node = below(first, tree.count);
+    let x = named(root_in(tree, node), node, third);
+    let v = below(second, tree.count);
+    link_under(
         fields,
         numbers,
         levels,
@@ -162,6 +316,7 @@ fn grow(
         scratch,
         r,
         x,
+        v,
         label(turn, third),
     )
 }
@@ -189,7 +344,33 @@ fn inspected(
     r
 }
 
-// One growth and an inspection.
+// One growth or link.
+fn call_once(
+    fields: &mut [u16],
+    numbers: &mut [u64],
+    levels: &mut [i32],
+    ancestors: &mut [u16],
+    scratch: &mut [u16],
+    run: Run,
+    shape: u16,
+    turn: u16,
+) -> Run {
+    if is_link(shape, turn, run.seed) {
+        return link_once(fields, numbers, levels, ancestors, scratch, run, turn);
+    }
+    grow(
+        fields,
+        numbers,
+        levels,
+        ancestors,
+        scratch,
+        run,
+        shape,
+        turn,
+    )
+}
+
+// One growth or link, and an inspection.
 fn grow_once(
     fields: &mut [u16],
     numbers: &mut [u64],
@@ -200,7 +381,7 @@ fn grow_once(
     shape: u16,
     turn: u16,
 ) -> Run {
-    let grown = grow(
+    let called = call_once(
         fields,
         numbers,
         levels,
@@ -210,7 +391,7 @@ fn grow_once(
         shape,
         turn,
     );
-    inspected(fields, numbers, levels, ancestors, scratch, grown, turn)
+    inspected(fields, numbers, levels, ancestors, scratch, called, turn)
 }
 
 // More turns than nodes: the last growths are refused.

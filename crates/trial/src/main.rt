@@ -1,4 +1,4 @@
-// The engine against a naive parent walk (01, "Guarantees in writing", d): trees of several shapes at capacity 128, every pair asked,
+// The engine against a naive parent walk (01, "Guarantees in writing", d): trees of several shapes, and several trees, at capacity 128, every pair asked,
 // inspection after each growth, and 01's other cases that need no large table.
 use crate::compare::ask_all;
 use crate::grow::Run;
@@ -32,16 +32,15 @@ fn started(made: Made, seed: u64) -> Run {
             tree: tree::empty(),
             tally: tally::none(),
             total: 0,
+            joinings: 0,
             seed: seed,
         },
         Made::Refused(_) => Run {
-            state: State {
-                count: 0,
-                root: tree::NONE,
-            },
+            state: State { count: 0 },
             tree: tree::empty(),
             tally: noted(tally::none(), false, b'S', 0, 0),
             total: 0,
+            joinings: 0,
             seed: seed,
         },
     }
@@ -92,7 +91,7 @@ fn asked(fields: &[u16], numbers: &[u64], levels: &[i32], ancestors: &[u16], run
 
 // A table grown in one shape to its last row, and all pairs asked.
 fn try_shape(shape: u16) -> Run {
-    let mut fields = [7u16; 1280];
+    let mut fields = [7u16; 1536];
     let mut numbers = [7u64; 256];
     let mut levels = [7i32; 128];
     let mut ancestors = [7u16; 15616];

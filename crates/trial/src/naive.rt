@@ -15,7 +15,7 @@ pub fn minus(a: u16, b: u16) -> u16 {
     if b <= a { a - b } else { 0 }
 }
 
-// How many steps lead from x to the root.
+// How many steps lead from x to its root.
 pub fn depth(parents: &[u16], x: u16) -> u16 {
     let mut at = of(parents, x);
     let mut steps: u16 = 0;
@@ -38,6 +38,31 @@ pub fn climb(parents: &[u16], x: u16, steps: u16) -> u16 {
         k += 1;
     }
     at
+}
+
+// The root of x's tree.
+pub fn root_of(parents: &[u16], x: u16) -> u16 {
+    climb(parents, x, depth(parents, x))
+}
+
+fn one_more_if(yes: bool, n: u64) -> u64 {
+    if yes {
+        if n < 1000 {
+            return n + 1;
+        }
+    }
+    n
+}
+
+// How many of so many nodes have the root x.
+pub fn members(parents: &[u16], count: u16, x: u16) -> u64 {
+    let mut found: u64 = 0;
+    let mut k: u16 = 0;
+    while k < count {
+        found = one_more_if(root_of(parents, k) == x, found);
+        k += 1;
+    }
+    found
 }
 
 // Where the lines of x and y, equally deep, meet.

@@ -10,7 +10,9 @@ pub fn write_name(shape: u16) {
         2 => write_all(1, b"star"),
         3 => write_all(1, b"recent"),
         4 => write_all(1, b"binary"),
-        _ => write_all(1, b"caterpillar"),
+        5 => write_all(1, b"caterpillar"),
+        6 => write_all(1, b"several trees"),
+        _ => write_all(1, b"linked trees"),
     }
     ;
 }

@@ -1,9 +1,22 @@
-// The calls that a shape of tree makes: which parent, which label, and when a new root.
+// The calls that a shape makes: of which kind, and with which nodes and labels.
 use crate::naive::minus;
 use crate::random::below;
 
-// The shapes: uniform, chain, star, recent parents, binary, caterpillar.
-pub const SHAPES: u16 = 6;
+// The shapes: one tree, uniform, chain, star, recent parents, binary, caterpillar; then several trees, and trees that are linked.
+pub const SHAPES: u16 = 8;
+
+const SEVERAL: u16 = 6;
+
+const LINKED: u16 = 7;
+
+pub enum Kind {
+    Leaf,
+    // Over the root of node 0's tree, or the first node.
+    Root,
+    First,
+    // A new root over a named one.
+    Over,
+}
 
 // The parent of the next leaf; now and then a node that is not there.
 pub fn parent(shape: u16, count: u16, seed: u64, other: u64) -> u16 {
@@ -16,7 +29,8 @@ pub fn parent(shape: u16, count: u16, seed: u64, other: u64) -> u16 {
         2 => 0,
         3 => minus(minus(count, 1), below(seed, 8)),
         4 => minus(count, 1) / 2,
-        _ => minus(count, 1) / 2 * 2,
+        5 => minus(count, 1) / 2 * 2,
+        _ => below(other, count),
     }
 }
 
@@ -34,8 +48,8 @@ pub fn label(turn: u16, seed: u64) -> u16 {
     }
 }
 
-// Whether this turn makes a new root: the first, and then one in so many.
-pub fn is_root(shape: u16, turn: u16, seed: u64) -> bool {
+// Whether this turn of one tree makes a new root: the first, and then one in so many.
+fn is_root(shape: u16, turn: u16, seed: u64) -> bool {
     if turn == 1 {
         return true;
     }
@@ -46,4 +60,43 @@ pub fn is_root(shape: u16, turn: u16, seed: u64) -> bool {
         4 => below(seed, 5) == 0,
         _ => false,
     }
+}
+
+// The call of a turn of several trees.
+fn kind_of_several(turn: u16, seed: u64) -> Kind {
+    if turn == 1 {
+        return Kind::First;
+    }
+    match below(seed, 8) {
+        0 => Kind::First,
+        1 => Kind::Over,
+        _ => Kind::Leaf,
+    }
+}
+
+// The call of a turn.
+pub fn kind_of(shape: u16, turn: u16, seed: u64) -> Kind {
+    if SEVERAL <= shape {
+        return kind_of_several(turn, seed);
+    }
+    if is_root(shape, turn, seed) {
+        return Kind::Root;
+    }
+    Kind::Leaf
+}
+
+// Whether this turn links two trees.
+pub fn is_link(shape: u16, turn: u16, seed: u64) -> bool {
+    if shape != LINKED {
+        return false;
+    }
+    if turn < 2 {
+        return false;
+    }
+    below(seed, 5) == 0
+}
+
+// The root that a call names: that of a node's tree, now and then the node itself.
+pub fn named(root: u16, node: u16, seed: u64) -> u16 {
+    if below(seed, 5) == 0 { node } else { root }
 }

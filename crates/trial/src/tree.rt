@@ -1,4 +1,8 @@
-// The plain list of 01 on arrays, for 128 nodes: parents and labels, the count and the root. It shares nothing with the engine.
+// The plain list of 01 and 02 on arrays, for 128 nodes: parents and labels, and the count; a root has no parent. It shares nothing with the engine.
+use crate::naive::members;
+use crate::naive::of;
+use crate::naive::root_of;
+
 pub const NONE: u16 = 65535;
 
 pub const CAPACITY: u16 = 128;
@@ -7,7 +11,6 @@ pub struct Tree {
     pub parents: [u16; 128],
     pub labels: [u16; 128],
     pub count: u16,
-    pub root: u16,
 }
 
 pub fn empty() -> Tree {
@@ -15,7 +18,6 @@ pub fn empty() -> Tree {
         parents: [NONE; 128],
         labels: [0; 128],
         count: 0,
-        root: NONE,
     }
 }
 
@@ -45,15 +47,19 @@ fn with_count(t: Tree) -> Tree {
     next
 }
 
+fn is_label(label: u16) -> bool {
+    if label < 1 {
+        return false;
+    }
+    label <= 9999
+}
+
 // The refusal of a leaf, or 0.
 pub fn leaf_refusal(t: Tree, parent: u16, label: u16) -> u16 {
     if t.count <= parent {
         return 1;
     }
-    if label < 1 {
-        return 5;
-    }
-    if 9999 < label {
+    if !is_label(label) {
         return 5;
     }
     if t.count == CAPACITY {
@@ -62,12 +68,59 @@ pub fn leaf_refusal(t: Tree, parent: u16, label: u16) -> u16 {
     0
 }
 
-// The refusal of a new root, or 0.
-pub fn root_refusal(t: Tree) -> u16 {
+// The refusal of a node that names no other, or 0.
+pub fn full_refusal(t: Tree) -> u16 {
     if t.count == CAPACITY {
         return 2;
     }
     0
+}
+
+fn parent_of(t: Tree, x: u16) -> u16 {
+    let parents = t.parents;
+    of(&parents, x)
+}
+
+// The root of a node's tree.
+pub fn root_in(t: Tree, x: u16) -> u16 {
+    let parents = t.parents;
+    root_of(&parents, x)
+}
+
+// The refusal of a new root over x, or 0.
+pub fn over_refusal(t: Tree, x: u16) -> u16 {
+    if t.count <= x {
+        return 1;
+    }
+    if parent_of(t, x) != NONE {
+        return 10;
+    }
+    full_refusal(t)
+}
+
+// The refusal of a link, or 0.
+pub fn link_refusal(t: Tree, x: u16, v: u16, label: u16) -> u16 {
+    if t.count <= x {
+        return 1;
+    }
+    if t.count <= v {
+        return 1;
+    }
+    if !is_label(label) {
+        return 5;
+    }
+    if parent_of(t, x) != NONE {
+        return 10;
+    }
+    if root_in(t, v) == x {
+        return 11;
+    }
+    0
+}
+
+// A first node that is not refused.
+pub fn with_first(t: Tree) -> Tree {
+    with_count(t)
 }
 
 // A leaf that is not refused.
@@ -78,11 +131,29 @@ pub fn with_leaf(t: Tree, parent: u16, label: u16) -> Tree {
     with_count(b)
 }
 
-// A new root that is not refused: the parent of the old one.
-pub fn with_root(t: Tree) -> Tree {
+// A new root over x that is not refused: the parent of x.
+pub fn with_over(t: Tree, x: u16) -> Tree {
     let node = t.count;
-    let a = with_parent(t, t.root, node);
-    let mut b = with_count(a);
-    b.root = node;
-    b
+    let a = with_parent(t, x, node);
+    with_count(a)
+}
+
+// 01's new root, not refused: over that of node 0, or the first node.
+pub fn with_root(t: Tree) -> Tree {
+    if t.count == 0 {
+        return with_first(t);
+    }
+    with_over(t, root_in(t, 0))
+}
+
+// How many nodes the tree of a root has.
+pub fn members_in(t: Tree, root: u16) -> u64 {
+    let parents = t.parents;
+    members(&parents, t.count, root)
+}
+
+// A link that is not refused.
+pub fn with_link(t: Tree, x: u16, v: u16, label: u16) -> Tree {
+    let a = with_parent(t, x, v);
+    with_label(a, x, label)
 }

@@ -9,7 +9,7 @@ abbrev Inv-loop : tie.InvT-loop
 Inv-loop shape₀ shape = Unit {0}
 
 abbrev μ-loop : tie.MeasureT-loop
-μ-loop shape₀ shape = 6 - shape
+μ-loop shape₀ shape = 8 - shape
 
 loop-holds : tie.Need-loop-holds Inv-loop μ-loop
 loop-holds c = tt

@@ -9,9 +9,6 @@ use Rattle.bytes_tree.proofs.tree.write_tree.Tie as tie
 put16-requires : tie.Need-put16-requires
 put16-requires c κs = search needs
 
-put16-requires-2 : tie.Need-put16-requires-2
-put16-requires-2 c κs = search needs
-
 write16-requires : tie.Need-write16-requires
 write16-requires c κs = search needs
 
@@ -29,16 +26,15 @@ same-length c = search needs
 
 returns : tie.Need-returns
 returns c =
-    let a = c .before .before .before .before .before .before .before .before .before .before .before .before .before .before .before .before .before .before .before .before .before .before .before .before .before .before .before .before .args in (
-      rw (c .before .before .write162 .ensures, c .before .before .before .before .before .before .write-levels .ensures .0, c .before .before .before .before .before .before .before .before .before .before .write64 .ensures, c .before .before .before .before .before .before .before .before .before .before .before .before .before .before .write16 .ensures, c .before .before .before .before .before .before .before .before .before .before .before .before .before .before .before .before .before .before .put162 .ensures, c .before .before .before .before .before .before .before .before .before .before .before .before .before .before .before .before .before .before .before .before .before .before .put16 .ensures)
-          (tree-stored (a .b .now) (a .state) (partsOf (a .fields .now) (a .numbers .now) (a .levels .now) (a .ancestors .now)) (c .before .before .before .before .before .before .before .before .before .before .before .before .before .before .before .before .before .before .before .before .before .before .before .before .before .before .before .before .pre .0) (c .before .before .before .before .before .before .before .before .before .before .before .before .before .before .before .before .before .before .before .before .before .before .before .before .before .before .before .before .pre .1)),
+    let a = c .before .before .before .before .before .before .before .before .before .before .before .before .before .before .before .before .before .before .before .before .before .before .before .before .args in (
+      rw (c .before .before .write162 .ensures, c .before .before .before .before .before .before .write-levels .ensures .0, c .before .before .before .before .before .before .before .before .before .before .write64 .ensures, c .before .before .before .before .before .before .before .before .before .before .before .before .before .before .write16 .ensures, c .before .before .before .before .before .before .before .before .before .before .before .before .before .before .before .before .before .before .put16 .ensures)
+          (tree-stored (a .b .now) (a .state) (partsOf (a .fields .now) (a .numbers .now) (a .levels .now) (a .ancestors .now)) (c .before .before .before .before .before .before .before .before .before .before .before .before .before .before .before .before .before .before .before .before .before .before .before .before .pre .0) (c .before .before .before .before .before .before .before .before .before .before .before .before .before .before .before .before .before .before .before .before .before .before .before .before .pre .1)),
       record {
-        count = omega (arith, c .before .before .before .before .before .before .before .before .before .before .before .before .before .before .before .before .before .before .before .before .before .before .before .before .before .before .before .before .good .1 .0);
-        root = omega (arith, c .before .before .before .before .before .before .before .before .before .before .before .before .before .before .before .before .before .before .before .before .before .before .before .before .before .before .before .before .good .1 .0);
-        fields = λ i h. c .before .before .before .before .before .before .before .before .before .before .before .before .before .before .before .before .before .before .before .before .before .before .before .before .before .before .shared-slice-known .given i .fits;
-        numbers = λ i h. c .before .before .before .before .before .before .before .before .before .before .before .before .before .before .before .before .before .before .before .before .before .before .before .before .before .shared-slice-known2 .given i .fits;
+        count = omega (arith, c .before .before .before .before .before .before .before .before .before .before .before .before .before .before .before .before .before .before .before .before .before .before .before .before .good .1 .0);
+        fields = λ i h. c .before .before .before .before .before .before .before .before .before .before .before .before .before .before .before .before .before .before .before .before .before .before .shared-slice-known .given i .fits;
+        numbers = λ i h. c .before .before .before .before .before .before .before .before .before .before .before .before .before .before .before .before .before .before .before .before .before .shared-slice-known2 .given i .fits;
         levels = c .before .before .before .before .before .before .write-levels .ensures .1;
-        ancestors = λ i h. c .before .before .before .before .before .before .before .before .before .before .before .before .before .before .before .before .before .before .before .before .before .before .before .before .shared-slice-known3 .given i .fits;
+        ancestors = λ i h. c .before .before .before .before .before .before .before .before .before .before .before .before .before .before .before .before .before .before .before .before .shared-slice-known3 .given i .fits;
       },
     )
 
@@ -47,7 +43,6 @@ write-tree-spec =
     tie.close
     (tie.spec
     put16-requires
-    put16-requires-2
     write16-requires
     write64-requires
     write-levels-requires

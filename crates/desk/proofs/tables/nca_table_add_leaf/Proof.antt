@@ -1,8 +1,6 @@
 -- `nca_table_add_leaf`: the growth, then its reply.
-use lib.ListN.{length}
 use Rattle.rows.specs.Row.{partsOf}
-use Rattle.desk.specs.TableCalls.{stateOf}
-use Rattle.desk.specs.TableCallsLaws.{leaf-misfit, leaf-served}
+use Rattle.desk.specs.TableCallsLaws.{growth-misfit, growth-served}
 use borrow.Author.Needs.{needs}
 use Rattle.desk.proofs.tables.nca_table_add_leaf.Statement.{statement}
 use Rattle.desk.proofs.tables.nca_table_add_leaf.Tie as tie
@@ -11,7 +9,7 @@ number-of-requires : tie.Need-number-of-requires
 number-of-requires c κs = search needs
 
 returns : tie.Need-returns
-returns c = let a = c .before .before .before .before .before .before .before .args in leaf-misfit (partsOf (a .fields .now) (a .numbers .now) (a .levels .now) (a .ancestors .now)) (a .out .now) (length (a .scratch .now)) (stateOf (a .count) (a .root)) (a .parent) (a .label) (c .number-of .ensures) (c .before .if1 .taken)
+returns c = let a = c .before .before .before .before .before .before .before .args in growth-misfit (partsOf (a .fields .now) (a .numbers .now) (a .levels .now) (a .ancestors .now)) (a .out .now) _ (c .number-of .ensures) (c .before .if1 .taken)
 
 add-leaf-requires : tie.Need-add-leaf-requires
 add-leaf-requires c κs = search needs
@@ -37,7 +35,7 @@ same-length-5 c = search needs
 returns-2 : tie.Need-returns-2
 returns-2 c =
     let a = c .before .before .before .before .before .before .before .before .before .before .before .before .before .before .before .before .before .before .before .before .before .before .args in
-    leaf-served (partsOf (a .fields .now) (a .numbers .now) (a .levels .now) (a .ancestors .now)) _ (a .out .now) _ _ (length (a .scratch .now)) (stateOf (a .count) (a .root)) (c .before .before .before .before .before .before .before .before .before .before .before .before .before .before .before .before .if1 .left) (c .before .before .reply-grown .ensures) (a .parent) (a .label) (c .before .before .before .before .before .before .before .before .before .before .before .add-leaf .ensures)
+    growth-served (partsOf (a .fields .now) (a .numbers .now) (a .levels .now) (a .ancestors .now)) _ (a .out .now) _ _ _ (c .before .before .before .before .before .before .before .before .before .before .before .before .before .before .before .before .if1 .left) (c .before .before .reply-grown .ensures) (c .before .before .before .before .before .before .before .before .before .before .before .add-leaf .ensures)
 
 pub nca-table-add-leaf-spec : {M : Type 1} → statement M
 nca-table-add-leaf-spec =

@@ -1,8 +1,6 @@
 -- `nca_table_add_root`: the growth, then its reply.
-use lib.ListN.{length}
 use Rattle.rows.specs.Row.{partsOf}
-use Rattle.desk.specs.TableCalls.{stateOf}
-use Rattle.desk.specs.TableCallsLaws.{root-misfit, root-served}
+use Rattle.desk.specs.TableCallsLaws.{growth-misfit, growth-served}
 use borrow.Author.Needs.{needs}
 use Rattle.desk.proofs.tables.nca_table_add_root.Statement.{statement}
 use Rattle.desk.proofs.tables.nca_table_add_root.Tie as tie
@@ -11,10 +9,10 @@ number-of-requires : tie.Need-number-of-requires
 number-of-requires c κs = search needs
 
 returns : tie.Need-returns
-returns c = let a = c .before .before .before .before .before .before .before .args in root-misfit (partsOf (a .fields .now) (a .numbers .now) (a .levels .now) (a .ancestors .now)) (a .out .now) (length (a .scratch .now)) (stateOf (a .count) (a .root)) (c .number-of .ensures) (c .before .if1 .taken)
+returns c = let a = c .before .before .before .before .before .before .before .args in growth-misfit (partsOf (a .fields .now) (a .numbers .now) (a .levels .now) (a .ancestors .now)) (a .out .now) _ (c .number-of .ensures) (c .before .if1 .taken)
 
-add-root-requires : tie.Need-add-root-requires
-add-root-requires c κs = search needs
+add-root-over-requires : tie.Need-add-root-over-requires
+add-root-over-requires c κs = search needs
 
 reply-grown-requires : tie.Need-reply-grown-requires
 reply-grown-requires c κs = search needs
@@ -37,7 +35,7 @@ same-length-5 c = search needs
 returns-2 : tie.Need-returns-2
 returns-2 c =
     let a = c .before .before .before .before .before .before .before .before .before .before .before .before .before .before .before .before .before .before .before .before .before .before .args in
-    root-served (partsOf (a .fields .now) (a .numbers .now) (a .levels .now) (a .ancestors .now)) _ (a .out .now) _ _ (length (a .scratch .now)) (stateOf (a .count) (a .root)) (c .before .before .before .before .before .before .before .before .before .before .before .before .before .before .before .before .if1 .left) (c .before .before .reply-grown .ensures) (c .before .before .before .before .before .before .before .before .before .before .before .add-root .ensures)
+    growth-served (partsOf (a .fields .now) (a .numbers .now) (a .levels .now) (a .ancestors .now)) _ (a .out .now) _ _ _ (c .before .before .before .before .before .before .before .before .before .before .before .before .before .before .before .before .if1 .left) (c .before .before .reply-grown .ensures) (c .before .before .before .before .before .before .before .before .before .before .before .add-root-over .ensures)
 
 pub nca-table-add-root-spec : {M : Type 1} → statement M
 nca-table-add-root-spec =
@@ -45,7 +43,7 @@ nca-table-add-root-spec =
     (tie.spec
     number-of-requires
     returns
-    add-root-requires
+    add-root-over-requires
     reply-grown-requires
     same-length
     same-length-2

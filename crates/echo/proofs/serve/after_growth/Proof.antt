@@ -1,4 +1,4 @@
--- `after_growth`: the new count, root and rows of a growth, or those that it was given where it was refused.
+-- `after_growth`: the new count and rows of a growth, or those that it was given where it was refused.
 use mathlib.Core.Path.{refl}
 use borrow.Author.Needs.{needs}
 use Rattle.echo.proofs.serve.after_growth.Statement.{statement}

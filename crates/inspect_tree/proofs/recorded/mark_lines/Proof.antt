@@ -3,7 +3,7 @@ use mathlib.Core.Path.{_≡_, refl}
 use Prim.Native.Nat.{_-_, _≤_}
 use lib.ListN.{length}
 use Rattle.inspect_laws.specs.All.{Passed, passed-none, passed-by, passed-end, stopped-by}
-use Rattle.inspect_laws.specs.Recorded.{isRootd}
+use Rattle.inspect_laws.specs.Recorded.{isRooted}
 use Rattle.inspect_tree.specs.Columns.{fieldTable}
 use Rattle.inspect_tree.specs.Line.{Lines, lines-none, lines-more, lines-stop, lines-end}
 use native.Mathlib.Omega.{arith}
@@ -12,7 +12,7 @@ use Rattle.inspect_tree.proofs.recorded.mark_lines.Statement.{statement
 use Rattle.inspect_tree.proofs.recorded.mark_lines.Tie as tie
 
 abbrev Inv-loop : tie.InvT-loop
-Inv-loop fields s₀ n f₀ s f = (f ≤ n) × ((length s ≡ length s₀) × (Passed (isRootd (fieldTable fields n)) f × Lines (fieldTable fields n) f s))
+Inv-loop fields s₀ n f₀ s f = (f ≤ n) × ((length s ≡ length s₀) × (Passed (isRooted (fieldTable fields n)) f × Lines (fieldTable fields n) f s))
 
 abbrev μ-loop : tie.MeasureT-loop
 μ-loop fields s₀ n f₀ s f = n - f
@@ -30,7 +30,7 @@ same-length : tie.Need-same-length Inv-loop μ-loop
 same-length c = search needs
 
 returns : tie.Need-returns Inv-loop μ-loop
-returns c = lines-stop (fieldTable (c .before .before .before .before .before .before .before .before .before .before .before .before .before .args .fields .now) (c .before .before .before .before .before .before .before .before .before .before .before .before .before .args .n)) _ (stopped-by (isRootd (fieldTable (c .before .before .before .before .before .before .before .before .before .before .before .before .before .args .fields .now) (c .before .before .before .before .before .before .before .before .before .before .before .before .before .args .n))) (c .before .before .before .before .before .before .before .before .before .before .before .before .before .args .n) (c .before .before .before .before .before .before .loop .f) (omega arith) (c .before .before .before .mark-tree .ensures .answer) (c .if1 .taken))
+returns c = lines-stop (fieldTable (c .before .before .before .before .before .before .before .before .before .before .before .before .before .args .fields .now) (c .before .before .before .before .before .before .before .before .before .before .before .before .before .args .n)) _ (stopped-by (isRooted (fieldTable (c .before .before .before .before .before .before .before .before .before .before .before .before .before .args .fields .now) (c .before .before .before .before .before .before .before .before .before .before .before .before .before .args .n))) (c .before .before .before .before .before .before .before .before .before .before .before .before .before .args .n) (c .before .before .before .before .before .before .loop .f) (omega arith) (c .before .before .before .mark-tree .ensures .answer) (c .if1 .taken))
 
 add-f : tie.Need-add-f Inv-loop μ-loop
 add-f c = search needs

@@ -1,0 +1,62 @@
+-- Runs of the plain list, computed: the log of 01, "Program and figures to check", one that meets every refusal and reply of 01, and one of several
+-- trees that meets those of 02, "Coupled rooms".
+use mathlib.Core.Path.{_≡_, refl}
+use mathlib.Core.List.{List, [], _∷_}
+use Prim.Native.Nat.{ℕ}
+use Rattle.tree_laws.specs.Ancestor.{none}
+use Rattle.plain_list.specs.PlainList.{emptyList, withNode, withLink}
+use Rattle.plain_list.specs.Naive.{naiveAnswer, naiveSame, naiveRoot}
+use Rattle.plain_list.specs.PlainStep.{PlainCall, first, leaf, root, rootOver, link, question, alike, inspection}
+use Rattle.plain_list.specs.PlainStep.{PlainReply, refused, node, linked, answered, same, passes, treeCount, plainOutcome, plainRun}
+
+-- an answer in the order of a printed line: nearest common ancestor, branches, distances, label
+abbrev answer : (a b c d e l : ℕ) → PlainReply
+answer a b c d e l = answered (record { nca = a; toX = b; toY = c; distanceX = d; distanceY = e; label = l })
+
+-- the log's seven fields
+abbrev log : List PlainCall
+log = root 128 ∷ leaf 0 7 128 ∷ leaf 1 9 128 ∷ question 1 2 ∷ leaf 5 7 128 ∷ root 128 ∷ question 2 3 ∷ []
+
+-- the seven lines' numbers and answers; at the end node 3 is the root, over 0 over 1 over 2
+log-run : plainRun 128 emptyList log ≡ record {
+  replies = node 0 ∷ node 1 ∷ node 2 ∷ answer 1 1 2 0 1 7 ∷ refused 1 ∷ node 3 ∷ answer 3 0 3 3 0 0 ∷ [];
+  last = record { parents = 3 ∷ 0 ∷ 1 ∷ none ∷ []; labels = 0 ∷ 7 ∷ 9 ∷ 0 ∷ [] };
+  joinings = 4;
+}
+unfolding plainRun plainOutcome naiveAnswer naiveRoot withNode
+log-run = refl
+
+-- at capacity 5: two leaves with equal labels under the root, one below each, and the refusals in their order
+abbrev full : List PlainCall
+full =
+    inspection 5 ∷ question 0 0 ∷ leaf 0 7 5 ∷ root 4 ∷ root 5 ∷ leaf 1 0 4 ∷ leaf 1 0 5 ∷ leaf 0 0 5 ∷ leaf 0 10000 5 ∷ leaf 0 7 5 ∷ leaf 0 7 5 ∷
+    leaf 1 9999 5 ∷ leaf 2 8 5 ∷ leaf 4 1 5 ∷ leaf 5 0 5 ∷ leaf 4 0 5 ∷ root 5 ∷ root 6 ∷ question 3 4 ∷ question 3 3 ∷ question 1 3 ∷ question 5 0 ∷
+    alike 1 2 ∷ alike 3 4 ∷ alike 0 1 ∷ alike 0 0 ∷ alike 0 5 ∷ inspection 6 ∷ inspection 5 ∷ []
+
+full-run : plainRun 5 emptyList full .replies ≡
+    passes ∷ refused 1 ∷ refused 1 ∷ refused 3 ∷ node 0 ∷ refused 3 ∷ refused 1 ∷ refused 5 ∷ refused 5 ∷ node 1 ∷ node 2 ∷
+    node 3 ∷ node 4 ∷ refused 2 ∷ refused 1 ∷ refused 5 ∷ refused 2 ∷ refused 3 ∷ answer 0 1 2 2 2 0 ∷ answer 3 3 3 0 0 9999 ∷ answer 1 1 3 0 1 7 ∷ refused 1 ∷
+    same 1 ∷ same 0 ∷ same 0 ∷ same 1 ∷ refused 1 ∷ refused 3 ∷ passes ∷ []
+unfolding plainRun plainOutcome naiveAnswer naiveSame naiveRoot withNode
+full-run = refl
+
+-- at capacity 6: node 1 under root 0, node 3 under 2 under the new root 4; 4 is linked under 1, then 0 under the first node 5
+abbrev coupled : List PlainCall
+coupled =
+    rootOver 0 6 ∷ first 6 ∷ leaf 0 7 6 ∷ first 6 ∷ leaf 2 8 6 ∷ first 5 ∷ question 0 2 ∷ question 6 2 ∷ alike 1 3 ∷ rootOver 1 6 ∷ rootOver 2 5 ∷
+    rootOver 2 6 ∷ link 2 1 9 6 ∷ link 1 0 9 6 ∷ link 4 4 9 6 ∷ link 4 3 9 6 ∷ link 2 1 0 6 ∷ link 4 6 0 6 ∷ link 6 1 0 6 ∷ link 4 1 9 5 ∷ question 3 1 ∷
+    link 4 1 9 6 ∷ question 3 1 ∷ alike 4 1 ∷ rootOver 4 6 ∷ first 6 ∷ first 6 ∷ rootOver 0 6 ∷ rootOver 1 6 ∷ alike 3 5 ∷ link 0 5 3 6 ∷ question 3 5 ∷
+    alike 5 5 ∷ []
+
+-- the linked trees count three and five nodes
+coupled-run : plainRun 6 emptyList coupled ≡ record {
+  replies =
+      refused 1 ∷ node 0 ∷ node 1 ∷ node 2 ∷ node 3 ∷ refused 3 ∷ refused 12 ∷ refused 1 ∷ refused 12 ∷ refused 10 ∷ refused 3 ∷
+      node 4 ∷ refused 10 ∷ refused 10 ∷ refused 11 ∷ refused 11 ∷ refused 5 ∷ refused 1 ∷ refused 1 ∷ refused 3 ∷ refused 12 ∷
+      linked ∷ answer 1 4 1 3 0 7 ∷ same 0 ∷ refused 10 ∷ node 5 ∷ refused 2 ∷ refused 2 ∷ refused 10 ∷ refused 12 ∷ linked ∷ answer 5 0 5 5 0 0 ∷
+      same 1 ∷ [];
+  last = record { parents = 5 ∷ 0 ∷ 4 ∷ 2 ∷ 1 ∷ none ∷ []; labels = 3 ∷ 7 ∷ 0 ∷ 8 ∷ 9 ∷ 0 ∷ [] };
+  joinings = 14;
+}
+unfolding plainRun plainOutcome naiveAnswer naiveSame naiveRoot treeCount withNode withLink
+coupled-run = refl

@@ -1,0 +1,50 @@
+-- The plain list (01, "Demand 3 and the plain list"; 02, "Coupled rooms"): each node's parent and label. A tree's root is its node without a parent.
+use mathlib.Core.List.{List, [], _∷_, _++_}
+use Prim.Native.Nat.{ℕ}
+use lib.ListN.{length, getD, set}
+use Rattle.tree_laws.specs.Ancestor.{none}
+
+-- node x has the parent and the label that stand at x; none is the parent of a root
+pub record PlainList : Type 0 where
+  pub parents : List ℕ
+  pub labels : List ℕ
+
+-- at first: no node
+abbrev pub emptyList : PlainList
+emptyList = record { parents = []; labels = [] }
+
+-- how many nodes there are so far
+abbrev pub countOf : PlainList → ℕ
+countOf p = length (p .parents)
+
+-- the parent of node x
+abbrev pub parentOf : PlainList → ℕ → ℕ
+parentOf p x = getD (p .parents) x none
+
+-- the label of node x
+abbrev pub labelOf : PlainList → ℕ → ℕ
+labelOf p x = getD (p .labels) x 0
+
+-- with one node more, of this parent and label
+unfoldable pub withNode : PlainList → ℕ → ℕ → PlainList
+withNode p parent label = record { parents = p .parents ++ (parent ∷ []); labels = p .labels ++ (label ∷ []) }
+
+-- a first node: a tree by itself, of label 0
+abbrev pub withFirst : PlainList → PlainList
+withFirst p = withNode p none 0
+
+-- a new leaf of this parent and label
+abbrev pub withLeaf : PlainList → ℕ → ℕ → PlainList
+withLeaf p parent label = withNode p parent label
+
+-- node x under node v
+abbrev pub under : PlainList → ℕ → ℕ → PlainList
+under p x v = record { parents = set (p .parents) x v; labels = p .labels }
+
+-- a new root (the paper's "top") over the root r, which comes under it: its label is 0
+abbrev pub withRoot : PlainList → ℕ → PlainList
+withRoot p r = withNode (under p r (countOf p)) none 0
+
+-- the tree of root x under node v, x with the label of the door (the paper's word for what a linked tree is seen through)
+unfoldable pub withLink : PlainList → ℕ → ℕ → ℕ → PlainList
+withLink p x v door = record { parents = set (p .parents) x v; labels = set (p .labels) x door }

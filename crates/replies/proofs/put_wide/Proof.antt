@@ -1,0 +1,18 @@
+-- `put_wide` fills an out slice of that length.
+use mathlib.Core.List.{[], _∷_}
+use Rattle.bytes_tree.specs.BytesLaws.{sets-all}
+use borrow.Author.Needs.{needs}
+use Rattle.replies.proofs.put_wide.Statement.{statement}
+use Rattle.replies.proofs.put_wide.Tie as tie
+
+slice-write-out : tie.Need-slice-write-out
+slice-write-out c = search needs
+
+same-length : tie.Need-same-length
+same-length c = search needs
+
+returns : tie.Need-returns
+returns c = sets-all (c .args .out .now) (c .args .a ∷ []) (c .pre)
+
+pub put-wide-spec : {M : Type 1} → statement M
+put-wide-spec = tie.close (tie.spec slice-write-out same-length returns)

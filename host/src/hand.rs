@@ -1,0 +1,137 @@
+//! Several trees in a table, by hand: links of small tables and of two paths, trees that are not shared, and records that lead nowhere.
+
+use crate::engine::{Table, FIELDS, NONE, ROOT};
+use crate::lent::Lent;
+use crate::tally::equal;
+
+const PARENT: usize = 0;
+const LABEL: usize = 9;
+
+fn field(t: &Table, row: usize, place: usize) -> u16 {
+    t.fields.part()[FIELDS * row + place]
+}
+
+/// A field of the rows in use.
+fn column(t: &Table, place: usize) -> Vec<u16> {
+    (0..t.count as usize).map(|row| field(t, row, place)).collect()
+}
+
+/// A table and a scratch with a pattern.
+fn empty(capacity: usize) -> (Table, Lent<u16>) {
+    let (mut table, mut scratch) = (Table::new(capacity, true), Lent::new(capacity, 0));
+    scratch.part_mut().iter_mut().enumerate().for_each(|(i, c)| *c = 777 + 3 * i as u16);
+    equal(table.set_up(), Ok(()), || "set-up".into());
+    (table, scratch)
+}
+
+/// A first node, a leaf under it, and the first node of another tree, at capacity 4.
+fn two_trees() -> (Table, Lent<u16>) {
+    let (mut table, scratch) = empty(4);
+    equal(table.add_first(&scratch).map(|g| g.node), Ok(0), || "a first node".into());
+    equal(table.add_leaf(&scratch, 0, 3).map(|g| g.node), Ok(1), || "a leaf".into());
+    equal(table.add_first(&scratch).map(|g| g.node), Ok(2), || "a second first node".into());
+    (table, scratch)
+}
+
+/// Questions across trees, and new roots over nodes that are none.
+fn trees_apart() {
+    let (mut table, mut scratch) = two_trees();
+    equal(table.query(0, 2), Err(12), || "a question across trees".into());
+    equal(table.alike(2, 1), Err(12), || "alike across trees".into());
+    equal(table.query(1, 3), Err(1), || "an unknown node comes before 12".into());
+    equal(table.query(2, 2), Ok([2, 2, 2, 0, 0, 0]), || "a node of the second tree with itself".into());
+    equal(table.add_root(&scratch, 1).map(|_| ()), Err(10), || "a new root over a leaf".into());
+    equal(table.add_root(&scratch, 2).map(|g| (g.node, g.rows)), Ok((3, 2)), || "a new root of the second tree".into());
+    equal((field(&table, 0, ROOT), field(&table, 2, ROOT)), (0, 3), || "the roots".into());
+    equal(table.add_root(&scratch, 2).map(|_| ()), Err(10), || "a new root over an old one".into());
+    equal(table.add_root(&scratch, 3).map(|_| ()), Err(2), || "a new root of a full table".into());
+    equal(table.inspect(&mut scratch), Ok(1), || "inspection".into());
+}
+
+/// A root record that leads past the count.
+fn root_astray() {
+    let (mut table, mut scratch) = two_trees();
+    table.fields.part_mut()[ROOT] = 60000;
+    equal(table.add_leaf(&scratch, 0, 1).map(|_| ()), Err(4), || "a leaf of a tree without root".into());
+    equal(table.add_root(&scratch, 0).map(|_| ()), Err(4), || "a new root of a tree without root".into());
+    equal(table.query(0, 1), Err(4), || "a question to a tree without root".into());
+    equal(table.alike(0, 1), Err(4), || "alike of a tree without root".into());
+    equal(table.query(0, 2), Err(12), || "another tree comes before the root".into());
+    #[cfg(link)]
+    equal(table.link(&mut scratch, 0, 2, 5), Err(4), || "a link of a tree without root".into());
+    equal(table.inspect(&mut scratch), Ok(0), || "inspection of a tree without root".into());
+}
+
+/// Two first nodes that fill a table, one linked under the other.
+#[cfg(link)]
+fn full_table() {
+    let (mut table, mut scratch) = empty(2);
+    (0..2).for_each(|x| equal(table.add_first(&scratch).map(|g| g.node), Ok(x), || "a first node".into()));
+    equal(table.link(&mut scratch, 0, 1, 7), Ok(2), || "a link in a full table".into());
+    equal(table.levels.part(), &[1, 0], || "levels after a link in a full table".into());
+    equal(table.query(0, 1), Ok([1, 0, 1, 1, 0, 0]), || "a question after a link".into());
+    equal(table.inspect(&mut scratch), Ok(1), || "inspection after a link".into());
+}
+
+/// A tree with new roots is turned round by its link.
+#[cfg(link)]
+fn turned_tree() {
+    let (mut table, mut scratch) = empty(4);
+    equal(table.add_first(&scratch).map(|g| g.node), Ok(0), || "a first node".into());
+    (0..2).for_each(|x| equal(table.add_root(&scratch, x).map(|g| g.node), Ok(x + 1), || "a new root".into()));
+    equal(table.add_first(&scratch).map(|g| g.node), Ok(3), || "a first node".into());
+    equal(table.link(&mut scratch, 1, 3, 9), Err(10), || "a link of a node that is no root".into());
+    equal(table.link(&mut scratch, 2, 2, 9), Err(11), || "a link of a root under itself".into());
+    equal(table.link(&mut scratch, 2, 0, 9), Err(11), || "a link under a node of the same tree".into());
+    equal(table.link(&mut scratch, 0, 1, 9), Err(10), || "10 comes before 11".into());
+    equal(table.link(&mut scratch, 2, 3, 0), Err(5), || "a link with label 0".into());
+    equal(table.link(&mut scratch, 1, 3, 10000), Err(5), || "5 comes before 10".into());
+    equal(table.link(&mut scratch, 2, 4, 0), Err(1), || "1 comes before 5".into());
+    equal(table.link(&mut scratch, 2, 3, 9), Ok(9), || "a link of a tree with new roots".into());
+    equal(column(&table, PARENT), vec![1, 2, 3, NONE], || "stored parents after a link".into());
+    equal(column(&table, LABEL), vec![0, 0, 9, 0], || "labels after a link".into());
+    equal(table.levels.part(), &[3, 2, 1, 0], || "levels after a link".into());
+    equal(column(&table, ROOT), vec![NONE, NONE, NONE, 3], || "roots after a link".into());
+    equal(table.inspect(&mut scratch), Ok(1), || "inspection after a link".into());
+}
+
+/// A table that does not pass: 10 and 11 come before 4, and the scratch keeps its pattern, as `Table::link` checks.
+#[cfg(link)]
+fn not_ours() {
+    let (mut table, mut scratch) = two_trees();
+    table.fields.part_mut()[LABEL] = 7;
+    equal(table.inspect(&mut scratch.clone()), Ok(0), || "inspection of a root with a label".into());
+    equal(table.link(&mut scratch, 1, 2, 5), Err(10), || "10 comes before 4".into());
+    equal(table.link(&mut scratch, 0, 1, 5), Err(11), || "11 comes before 4".into());
+    equal(table.link(&mut scratch, 0, 2, 5), Err(4), || "a link of a root with a label".into());
+    equal(table.link(&mut scratch, 2, 0, 5), Err(4), || "a link under a root with a label".into());
+}
+
+/// Two paths of 128 nodes, the first linked under a node of the second.
+#[cfg(link)]
+fn paths(under: u16, rows: u32) {
+    let (mut table, mut scratch) = empty(256);
+    let mut total = 0;
+    for first in [0, 128] {
+        total += table.add_first(&scratch).map_or(0, |g| u32::from(g.rows));
+        (first..first + 127).for_each(|x| total += table.add_leaf(&scratch, x, 1).map_or(0, |g| u32::from(g.rows)));
+    }
+    equal((table.count, total), (256, 2340), || "two paths".into());
+    equal(table.link(&mut scratch, 0, under, 3), Ok(rows), || format!("a path linked under {under}"));
+    equal(table.query(127, 255).map(|a| a[0]), Ok(i32::from(under)), || "the node where two paths part".into());
+    equal(table.inspect(&mut scratch), Ok(1), || "inspection of two paths".into());
+}
+
+pub fn cases() -> String {
+    trees_apart();
+    root_astray();
+    #[cfg(link)]
+    {
+        full_table();
+        turned_tree();
+        not_ours();
+        paths(255, 1618);
+        paths(128, 1831);
+    }
+    "7 tables".into()
+}

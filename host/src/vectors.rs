@@ -1,0 +1,158 @@
+//! Written lists of calls with every reply (host/vectors/lists.txt says how), and the tables that some of them leave; the stored trees beside them have
+//! the heads.
+
+use crate::engine::{Grown, Reply, Table, ENTRIES, FIELDS, NUMBERS, ROOT};
+use crate::lent::Lent;
+use crate::stored::Stored;
+use crate::tally::{check, equal};
+
+const LISTS: &str = include_str!("../vectors/lists.txt");
+
+/// What a call says, as numbers.
+type Numbers = Reply<Vec<i64>>;
+
+struct List {
+    number: usize,
+    table: Table,
+    stored: Stored,
+    capacity: usize,
+    total: u64,
+    joinings: u64,
+    rows: usize,
+}
+
+fn numbers(words: &str) -> Vec<i64> {
+    words.split_whitespace().filter_map(|w| w.parse().ok()).collect()
+}
+
+/// A reply as it is written: R and a refusal, or a letter and values.
+fn written(reply: &str) -> Numbers {
+    match reply.strip_prefix("R ") {
+        Some(code) => Err(code.parse().expect("a refusal")),
+        None => Ok(numbers(reply)),
+    }
+}
+
+impl List {
+    fn new(number: usize, capacity: usize) -> List {
+        let mut table = Table::new(capacity, true);
+        equal(table.set_up(), Ok(()), || "set-up".into());
+        List { number, table, stored: Stored::new(), capacity, total: 0, joinings: 0, rows: 0 }
+    }
+
+    /// A growth's values and head, with the same growth of the stored trees.
+    fn grown(&mut self, found: Reply<Grown>, model: impl FnOnce(&mut Stored) -> Grown) -> Numbers {
+        let grown = found?;
+        equal(grown, model(&mut self.stored), || format!("a growth of the stored trees, list {}", self.number));
+        self.total += u64::from(grown.rows);
+        self.joinings += 1;
+        Ok(vec![i64::from(grown.node), i64::from(grown.rows), i64::from(self.stored.head)])
+    }
+
+    /// Document 01's new root: over that of row 0's tree.
+    fn add_root_first_tree(&mut self, scratch: &Lent<u16>) -> Reply<Grown> {
+        if self.table.count == 0 {
+            self.table.add_first(scratch)
+        } else {
+            self.table.add_root(scratch, self.table.root_of(0))
+        }
+    }
+
+    #[cfg(not(link))]
+    fn link(&mut self, _: &mut Lent<u16>, _: u16, _: u16, _: u16) -> Numbers {
+        Err(0)
+    }
+
+    #[cfg(link)]
+    fn link(&mut self, scratch: &mut Lent<u16>, x: u16, v: u16, label: u16) -> Numbers {
+        let rows = self.table.link(scratch, x, v, label)?;
+        let linked = self.stored.link(x, v, label);
+        equal(u64::from(rows), linked.rows, || format!("a link of the stored trees, list {}", self.number));
+        self.total += u64::from(rows);
+        self.joinings += linked.joined as u64;
+        Ok(vec![i64::from(rows), i64::from(self.stored.head)])
+    }
+
+    fn call(&mut self, call: &str) -> Numbers {
+        let given = numbers(call);
+        let arg = |i: usize| given[i] as u16;
+        let mut scratch = Lent::new(*given.last().expect("a number") as usize, 7);
+        match &call[..1] {
+            "F" => {
+                let found = self.table.add_first(&scratch);
+                self.grown(found, |stored| stored.add_first())
+            }
+            "L" => {
+                let found = self.table.add_leaf(&scratch, arg(0), arg(1));
+                self.grown(found, |stored| stored.add_leaf(arg(0), arg(1)))
+            }
+            "T" => {
+                let found = self.table.add_root(&scratch, arg(0));
+                self.grown(found, |stored| stored.add_root(arg(0)))
+            }
+            "O" => {
+                let found = self.add_root_first_tree(&scratch);
+                self.grown(found, |stored| stored.add_root_first_tree())
+            }
+            "H" => self.link(&mut scratch, arg(0), arg(1), arg(2)),
+            "Q" => self.table.query(arg(0), arg(1)).map(|values| values.map(i64::from).to_vec()),
+            "A" => self.table.alike(arg(0), arg(1)).map(|value| vec![i64::from(value)]),
+            _ => self.table.inspect(&mut scratch).map(|value| vec![i64::from(value)]),
+        }
+    }
+
+    /// A call and its reply; the head may be left out.
+    fn play(&mut self, call: &str, reply: &str) {
+        let (mut found, expected) = (self.call(call), written(reply));
+        if let (Ok(found), Ok(expected)) = (&mut found, &expected) {
+            found.truncate(expected.len());
+        }
+        equal(found, expected, || format!("{call} in list {}", self.number));
+    }
+
+    /// The next row of the table.
+    fn row(&mut self, row: &str) {
+        let (row, entries) = row.split_once(" entries ").expect("a row and its entries");
+        let (row, entries) = (numbers(row), numbers(entries));
+        let entries: Vec<u16> = entries.chunks(2).flat_map(|run| vec![run[0] as u16; run[1] as usize]).collect();
+        let (x, t) = (self.rows, &self.table);
+        let fields: Vec<u16> = row[..=ROOT].iter().map(|n| *n as u16).collect();
+        let same = t.fields.part()[FIELDS * x..][..=ROOT] == fields
+            && i64::from(t.levels.part()[x]) == row[ROOT + 1]
+            && t.numbers.part()[NUMBERS * x..][..NUMBERS].iter().map(|n| *n as i64).eq(row[ROOT + 2..].iter().copied())
+            && t.ancestors.part()[ENTRIES * x..][..ENTRIES] == entries;
+        check(same, || format!("row {x} after list {}", self.number));
+        self.rows += 1;
+    }
+
+    fn end(&mut self, totals: &str) {
+        equal(vec![self.total as i64, self.joinings as i64], numbers(totals), || format!("the totals of list {}", self.number));
+        check(self.stored.is_held_by(&self.table), || format!("the stored trees of list {}", self.number));
+        let mut scratch = Lent::new(self.capacity, 7);
+        equal(self.table.inspect(&mut scratch), Ok(1), || format!("inspection after list {}", self.number));
+    }
+}
+
+pub fn lists() -> String {
+    let (mut list, mut count, mut calls): (Option<List>, usize, usize) = (None, 0, 0);
+    for line in LISTS.lines().filter(|line| !line.starts_with('#')) {
+        if let Some(capacity) = line.strip_prefix("capacity ") {
+            list = Some(List::new(count, capacity.parse().expect("a capacity")));
+            count += 1;
+        }
+        #[cfg(not(link))]
+        if line.starts_with("H") {
+            list = None;
+        }
+        let Some(list) = &mut list else { continue };
+        if let Some((call, reply)) = line.split_once(" -> ") {
+            list.play(call, reply);
+            calls += 1;
+        } else if let Some(row) = line.strip_prefix("row ") {
+            list.row(row);
+        } else if let Some(totals) = line.strip_prefix("end ") {
+            list.end(totals);
+        }
+    }
+    format!("{count} lists of {calls} calls")
+}
