@@ -1,30 +1,26 @@
 -- A link keeps the rules of inspection, is the plain list's step, and pays for itself.
 use mathlib.Core.Path.{_≡_, refl, ap, sym, _∙_}
-use mathlib.Core.Logic.{_⊎_, inl, inr, _≢_}
+use mathlib.Core.Logic.{inl, inr, _≢_}
 use Prim.Native.Nat.{ℕ, _+_, _*_, _≤_, _<_}
 use native.Mathlib.Decide.{ℕ-discrete}
 use native.Mathlib.Omega.{arith}
-use lib.Dec.{eqb}
-use lib.ListN.{length}
-use Rattle.laws.specs.Test.{pick, says-true, says-false, says-eqb}
+use Rattle.laws.specs.Test.{says-true, says-false, says-eqb}
 use Rattle.tree_laws.specs.Ancestor.{none, Anc, here, there, Forest}
 use Rattle.tree_laws.specs.AncestorLaws.{row-some, anc-in}
-use Rattle.tree_laws.specs.Top.{top-first, top-is, top-anc}
+use Rattle.tree_laws.specs.Top.{top-is, top-anc}
 use Rattle.rows.specs.Capacity.{capacityLimit}
 use Rattle.rows.specs.Table.{Table, parent, depth, label, level}
 use Rattle.rows.specs.PlainTree.{first, root, plain}
 use Rattle.rows.specs.StoredTree.{labelLimit}
-use Rattle.rows.specs.Rules.{Recorded, Rules, Numbered, numbered, rules-of}
+use Rattle.rows.specs.Rules.{Rules, Numbered, numbered, rules-of}
 use Rattle.growth_laws.specs.Below.{JoinedLeaf, Grows, grows-recorded, plain-old, plain-joined}
 use Rattle.growth_laws.specs.Joined.{SameNode}
 use Rattle.growth_laws.specs.Lag.{lag, worth, perJoin, Paid}
 use Rattle.growth_laws.specs.LoneLaws.{parted-numbered, parted-lag}
-use Rattle.growth_laws.specs.Older.{Older}
 use Rattle.growth_laws.specs.Trees.{own-trees, stored}
-use Rattle.link_laws.specs.Joinings.{Joinings}
 use Rattle.link_laws.specs.JoiningsLaws.{joinings-numbered, joinings-pay, joinings-count, joinings-rows, joinings-rest, Came, joinings-came}
-use Rattle.link_laws.specs.Link.{target, labelled, Linkable, Linked, PlainLink}
-use Rattle.link_laws.specs.Order.{isOfTree, treeRows}
+use Rattle.link_laws.specs.Link.{target, labelled, Linked, PlainLink}
+use Rattle.link_laws.specs.Order.{treeRows}
 use Rattle.link_laws.specs.OrderLaws.{order-once, order-before, order-length}
 
 module _ {capacity : ℕ} {t d : Table} {x v door k : ℕ} (r : Rules capacity t) (small : capacity ≤ capacityLimit) (q : Linked t d x v door k) where
