@@ -1,5 +1,5 @@
 -- A link from what each call leaves.
-use mathlib.Core.Path.{_≡_, refl, sym, ap, _∙_}
+use mathlib.Core.Path.{_≡_, refl, sym, _∙_}
 use mathlib.Core.Bool.{Bool, true, false}
 use mathlib.Core.List.{List}
 use Prim.Native.Nat.{ℕ, _*_, _≤_}
@@ -22,7 +22,6 @@ use Rattle.growth.specs.Fitting.{onFit}
 use Rattle.growth.specs.Good.{Held}
 use Rattle.growth.specs.Plan.{isLabel}
 use Rattle.growth.specs.Store.{Stored, stored}
-use Rattle.link.specs.declared.Linked.{Linked}
 use Rattle.link.specs.declared.Linked.the-variants.{Under, Refused}
 use Rattle.link.specs.declared.check.Checked.{Checked}
 use Rattle.link.specs.declared.check.Checked.the-variants.{Serve, Refuse}

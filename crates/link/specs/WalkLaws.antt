@@ -1,7 +1,6 @@
 -- The joins and the walk from what each call leaves.
-use mathlib.Core.Path.{_≡_, refl}
+use mathlib.Core.Path.{_≡_}
 use mathlib.Core.Logic.{_≢_}
-use mathlib.Core.List.{List}
 use Prim.Native.Nat.{ℕ, suc, _+_, _-_, _≤_, _<_}
 use native.Mathlib.Omega.{arith}
 use borrow.Author.Tests.{eq-eqb, ne-eqb, le-leb, lt-leb, lt-ltb, le-ltb}
@@ -20,7 +19,7 @@ use Rattle.growth.specs.Plan.{plannedRow}
 use Rattle.growth.specs.Store.{Stored, stored, storedBy}
 use Rattle.link.specs.declared.join.Joining.{Joining}
 use Rattle.link.specs.JoinRow.{labelFor, storedAs, joinedUnder, joinRow}
-use Rattle.link.specs.Walk.{within32, Walking, walking, joining, joinedOn, nextDepth, joinTurn, joinWalk}
+use Rattle.link.specs.Walk.{within32, walking, joining, joinedOn, nextDepth, joinTurn, joinWalk}
 
 -- one join
 

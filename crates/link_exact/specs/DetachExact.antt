@@ -1,16 +1,15 @@
 -- The rows of the linked tree, detached in the lent parts, stand alone with their targets in their root fields.
 use mathlib.Core.Path.{_≡_, refl, ap, sym, subst, _∙_}
-use mathlib.Core.Bool.{Bool, true, false}
 use mathlib.Core.Logic.{_⊎_, inl, inr, _≢_}
 use mathlib.Core.List.{List}
 use Prim.Native.Nat.{ℕ, zero, suc, _+_, _*_, _^_, _≤_, _<_}
-use native.Mathlib.Decide.{ℕ-discrete, decLt}
+use native.Mathlib.Decide.{ℕ-discrete}
 use native.Mathlib.Omega.{arith}
-use lib.Dec.{eqb, ltb}
+use lib.Dec.{ltb}
 use lib.IntN.{ℤ, pos}
 use lib.ListN.{getD}
 use Rattle.laws.specs.Test.{pick, says-true, says-false, says-eqb, says-get, says-not-get}
-use Rattle.tree_laws.specs.Ancestor.{none, Anc, here, there, Forest}
+use Rattle.tree_laws.specs.Ancestor.{none, here, there, Forest}
 use Rattle.tree_laws.specs.Reroot.{PlainParent, root, turned, kept, plainParent}
 use Rattle.tree_laws.specs.RerootLaws.{plain-parent}
 use Rattle.tree_laws.specs.SizeDepth.{depth-below}
@@ -18,22 +17,21 @@ use Rattle.span.specs.Constants.{ratioUp, ratioDown}
 use Rattle.span.specs.Numbers.{reachOf}
 use Rattle.tree_laws.specs.Top.{top-anc}
 use Rattle.rows.specs.Layout.{fieldStride, parentPlace, labelPlace, rootPlace}
-use Rattle.rows.specs.Row.{Parts, partsOf, fieldAt, entryAt}
+use Rattle.rows.specs.Row.{Parts, fieldAt, entryAt}
 use Rattle.rows.specs.Capacity.{Fits}
 use Rattle.rows.specs.Tree.{treePlace}
 use Rattle.rows.specs.Write.{withField}
-use Rattle.rows.specs.Table.{Table, tableOf, parent, depth, label, level}
-use Rattle.rows.specs.PlainTree.{first, plain}
+use Rattle.rows.specs.Table.{Table, tableOf, parent, depth}
+use Rattle.rows.specs.PlainTree.{first}
 use Rattle.rows.specs.Rules.{Rules, Numbered, numbered}
 use Rattle.renumbering.specs.Column.{put, put-same, put-other}
 use Rattle.link_laws.specs.Turn.{turnedUp, turned-off, turned-here, turned-on}
 use Rattle.growth_exact.specs.Columns.{Holds, holds-set, set-same, set-other}
 use Rattle.growth_exact.specs.LoneExact.{lone-fits, stands-alone, stays, lone-marks}
-use Rattle.growth_laws.specs.Lone.{Lone, Kept, Parted}
+use Rattle.growth_laws.specs.Lone.{Lone, Kept}
 use Rattle.numbering.specs.Numbered.{shape, storedTree}
 use Rattle.numbering.specs.TreeEntry.{entry-first}
 use Rattle.link_laws.specs.Link.{target, Linkable}
-use Rattle.link_laws.specs.Order.{isOfTree}
 use Rattle.link_exact.specs.LinkExact.{Detached}
 use Rattle.renumber.specs.NumberWalk.{Written, written}
 use Rattle.link.specs.DetachLaws.{other-parted, tree-parted}

@@ -1,10 +1,9 @@
 -- The joins of a link, in the lent parts, are the joinings that 02 asks for.
 use mathlib.Core.Path.{_≡_, refl, ap, sym, _∙_}
 use mathlib.Core.Bool.{true}
-use mathlib.Core.Logic.{_⊎_, inl, inr, _≢_}
+use mathlib.Core.Logic.{inl, inr, _≢_}
 use mathlib.Core.List.{List, [], _∷_}
 use Prim.Native.Nat.{ℕ, _+_, _≤_, _<_}
-use native.Mathlib.Decide.{ℕ-discrete}
 use native.Mathlib.Omega.{arith}
 use borrow.Author.Tests.{lt-ltb}
 use lib.Dec.{eqb}
@@ -17,8 +16,8 @@ use Rattle.tree_laws.specs.Depth.{Depth}
 use Rattle.tree_laws.specs.Join.{Old, Alone, Joins}
 use Rattle.tree_laws.specs.JoinLaws.{old-or, join-depth}
 use Rattle.tree_laws.specs.SizeDepth.{depth-below}
-use Rattle.rows.specs.Layout.{labelPlace, rootPlace}
-use Rattle.rows.specs.Row.{Parts, rowOf, fieldAt, levelAt}
+use Rattle.rows.specs.Layout.{rootPlace}
+use Rattle.rows.specs.Row.{Parts, rowOf, fieldAt}
 use Rattle.rows.specs.Capacity.{Fits}
 use Rattle.rows.specs.Sound.{levelLimit}
 use Rattle.rows.specs.SoundLaws.{says-sound}
@@ -27,17 +26,15 @@ use Rattle.rows.specs.Rules.{Numbered}
 use Rattle.numbering.specs.Numbered.{shape}
 use Rattle.numbering.specs.SoundRows.{numbered-sound, abs-suc}
 use Rattle.growth_laws.specs.Joined.{Planted}
-use Rattle.growth_laws.specs.JoinStep.{JoinStep, step-planted, join-keeps}
+use Rattle.growth_laws.specs.JoinStep.{step-planted, join-keeps}
 use Rattle.growth_laws.specs.Renumbered.{rows}
 use Rattle.link_laws.specs.Joinings.{Joinings, done, next}
 use Rattle.link_laws.specs.JoiningsLaws.{Before}
-use Rattle.growth.specs.declared.level.Level.the-variants.{At}
 use Rattle.growth.specs.Good.{isGood}
-use Rattle.growth.specs.Level.{levelOf, onLevel}
-use Rattle.growth.specs.Store.{stored, storedBy}
-use Rattle.renumbering.specs.Column.{put, put-other}
+use Rattle.growth.specs.Store.{stored}
+use Rattle.renumbering.specs.Column.{put-other}
 use Rattle.growth_exact.specs.Site.{Site}
-use Rattle.growth_exact.specs.PlanExact.{h, plan, row-planned, level-planned, joinedParts, joinedTable, site-stored, site-fits, site-step, site-roots}
+use Rattle.growth_exact.specs.PlanExact.{h, row-planned, level-planned, joinedParts, joinedTable, site-stored, site-fits, site-step, site-roots}
 use Rattle.link.specs.JoinRow.{storedAs, joinedUnder, joinRow, joinAll}
 
 -- the rows of the list wait, each alone, with its target in its root field

@@ -1,28 +1,24 @@
 -- A link in the lent parts, once the rows of the linked tree have been detached: the joins in their order make it.
-use mathlib.Core.Path.{_≡_, refl, ap, sym, _∙_}
-use mathlib.Core.Bool.{Bool, true}
-use mathlib.Core.Logic.{_⊎_, inl, inr, _≢_}
-use mathlib.Core.List.{List, [], _∷_}
-use Prim.Native.Nat.{ℕ, _+_, _≤_, _<_}
+use mathlib.Core.Path.{_≡_, refl, _∙_}
+use mathlib.Core.Bool.{true}
+use mathlib.Core.Logic.{_≢_}
+use mathlib.Core.List.{List}
+use Prim.Native.Nat.{ℕ, _<_}
 use native.Mathlib.Decide.{ℕ-discrete}
 use native.Mathlib.Omega.{arith}
-use lib.Dec.{eqb}
-use lib.IntN.{natAbs}
-use Rattle.laws.specs.Test.{pick, says-true, says-false, says-eqb}
+use Rattle.laws.specs.Test.{says-true, says-false, says-eqb}
 use Rattle.tree_laws.specs.Ancestor.{none}
-use Rattle.tree_laws.specs.AncestorLaws.{row-some}
 use Rattle.tree_laws.specs.ChildLinks.{Chain, end, link, Member}
 use Rattle.tree_laws.specs.Join.{Alone}
 use Rattle.tree_laws.specs.SizeDepth.{depth-below}
 use Rattle.rows.specs.Layout.{rootPlace}
 use Rattle.rows.specs.Row.{Parts, fieldAt}
 use Rattle.rows.specs.Capacity.{Fits}
-use Rattle.rows.specs.Sound.{levelLimit}
-use Rattle.rows.specs.Table.{Table, tableOf, parent, depth, label, level}
-use Rattle.rows.specs.PlainTree.{first, plain}
+use Rattle.rows.specs.Table.{Table, tableOf, parent, label, level}
+use Rattle.rows.specs.PlainTree.{first}
 use Rattle.rows.specs.Rules.{Rules, Numbered, numbered}
-use Rattle.numbering.specs.Numbered.{shape, storedTree}
-use Rattle.numbering.specs.LevelLaws.{treeParent, plain-tree, parent-in}
+use Rattle.numbering.specs.Numbered.{shape}
+use Rattle.numbering.specs.LevelLaws.{plain-tree, parent-in}
 use Rattle.numbering.specs.SoundRows.{level-depth}
 use Rattle.growth_laws.specs.Lone.{Lone, Parted}
 use Rattle.growth_laws.specs.LoneLaws.{parted-numbered}

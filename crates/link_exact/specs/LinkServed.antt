@@ -6,14 +6,14 @@ use mathlib.Core.Logic.{_≢_}
 use Prim.Native.Nat.{ℕ, _+_, _*_, _≤_, _<_}
 use native.Mathlib.Decide.{decLt}
 use native.Mathlib.Omega.{arith}
-use borrow.Author.Tests.{eq-eqb, ne-eqb, le-leb}
+use borrow.Author.Tests.{ne-eqb, le-leb}
 use lib.Dec.{eqb, ltb}
-use Rattle.laws.specs.Test.{pick, Says, holds, fails, says-true, says-ltb, says-get}
+use Rattle.laws.specs.Test.{Says, holds, fails, says-true, says-ltb, says-get}
 use Rattle.tree_laws.specs.Ancestor.{none}
 use Rattle.rows.specs.declared.refusal.Refusal.{Refusal}
 use Rattle.rows.specs.declared.refusal.Refusal.the-variants.{UnknownNode, Misfit, Corrupt, BadLabel, NotRoot, SameTree}
 use Rattle.rows.specs.declared.state.State.{State}
-use Rattle.rows.specs.Capacity.{Fits, capacityOf}
+use Rattle.rows.specs.Capacity.{Fits}
 use Rattle.rows.specs.CapacityLaws.{fits-told}
 use Rattle.rows.specs.PlainTree.{first, root}
 use Rattle.rows.specs.Row.{Parts}
@@ -32,7 +32,6 @@ use Rattle.growth.specs.Plan.{isLabel}
 use Rattle.link_laws.specs.Link.{Linkable, Linked, PlainLink}
 use Rattle.link_laws.specs.LinkLaws.{link-keeps-rules, link-plain, link-pays}
 use Rattle.link_laws.specs.Order.{treeRows}
-use Rattle.link.specs.declared.Linked.{Linked as Answer}
 use Rattle.link.specs.declared.Linked.the-variants.{Under, Refused}
 use Rattle.link.specs.declared.check.Checked.{Checked}
 use Rattle.link.specs.declared.check.Checked.the-variants.{Serve, Refuse}

@@ -1,7 +1,6 @@
 -- The sort leaves, on a table that passes inspection, one list for each depth below the linked root: the rows of that depth by rising number.
 use mathlib.Core.Path.{_≡_, refl, ap, sym, _∙_}
 use mathlib.Core.Bool.{Bool, true, false}
-use mathlib.Core.Logic.{_≢_}
 use mathlib.Core.List.{List}
 use Prim.Native.Nat.{ℕ, zero, suc, _≤_, _<_}
 use native.Mathlib.Decide.{ℕ-discrete}
@@ -9,18 +8,18 @@ use native.Mathlib.Omega.{arith}
 use borrow.Author.Tests.{le-leb}
 use lib.Dec.{eqb}
 use lib.IntN.{ℤ, pos, natAbs, _-ℤ_, _+ℤ_, +ℤ-comm, +ℤ-negℤ-cancel}
-use lib.ListN.{length, getD, set, replicate, length-set, length-replicate, getD-replicate}
+use lib.ListN.{length, set, replicate, length-set, length-replicate, getD-replicate}
 use lib.Seq.{getD-set-same, getD-set-other}
-use Rattle.laws.specs.Test.{pick, says-eqb, says-eq}
+use Rattle.laws.specs.Test.{pick}
 use Rattle.tree_laws.specs.Ancestor.{none}
-use Rattle.tree_laws.specs.ChildLinks.{Chain, Member}
+use Rattle.tree_laws.specs.ChildLinks.{Chain}
 use Rattle.tree_laws.specs.Chains.{chain-copy}
 use Rattle.tree_laws.specs.SizeDepth.{depth-below}
 use Rattle.rows.specs.Capacity.{Fits}
 use Rattle.rows.specs.Row.{Parts, levelAt, entryAt}
 use Rattle.rows.specs.Rules.{Rules, Numbered, numbered}
 use Rattle.rows.specs.Sound.{isLevel, levelLimit}
-use Rattle.rows.specs.Table.{Table, tableOf, depth, level}
+use Rattle.rows.specs.Table.{Table, tableOf, level}
 use Rattle.rows.specs.Tree.{treePlace}
 use Rattle.rows.specs.PlainTree.{first}
 use Rattle.numbering.specs.LevelLaws.{level-root}
@@ -28,7 +27,7 @@ use Rattle.numbering.specs.Numbered.{shape, InTree}
 use Rattle.numbering.specs.SoundRows.{level-depth}
 use Rattle.numbering.specs.TreeEntry.{entry-first}
 use Rattle.renumbering.specs.Column.{put, put-same, put-other}
-use Rattle.link.specs.Sort.{fromZero, depthBelow, cellAt, Sorted, sorted, putFront, placedRow, placedRows, sortedRows}
+use Rattle.link.specs.Sort.{depthBelow, cellAt, Sorted, sorted, putFront, placedRow, placedRows, sortedRows}
 use Rattle.link_laws.specs.Buckets.{Buckets, placed, sorted as sortedTo, sorted-levels}
 use Rattle.link_laws.specs.Levels.{levelOf, level-of}
 use Rattle.link_laws.specs.Link.{Linkable}

@@ -20,7 +20,7 @@ target t x v w = pick (eqb w x) v (plain t w)
 abbrev pub labelled : Table → ℕ → ℕ → ℕ → ℕ
 labelled t x door w = pick (eqb w x) door (label t w)
 
--- x is the root of its tree, v a row of another one, and the door's label goes from 1 to 9,999
+-- x is the root of its tree, v a row of another one, and `door`, the label that a linked root takes, goes from 1 to 9,999
 pub record Linkable (t : Table) (x v door : ℕ) : Type 0 where
   pub inUse : x < t .count
   pub isRoot : root t x ≡ x
@@ -42,8 +42,10 @@ pub record Linked (t d : Table) (x v door k : ℕ) : Type 0 where
   pub joins : Joinings (target t x v) (labelled t x door) apart d order k
   pub roots : (f : ℕ) → f < t .count → first t f ≢ first t x → d .root f ≡ t .root f
 
--- the plain trees of d are those of t, but that x comes under v, with the door's label
+-- the plain trees of d are those of t, but that x comes under v and takes the door's label
 pub record PlainLink (t d : Table) (x v door : ℕ) : Type 0 where
   pub count : d .count ≡ t .count
-  pub parents : (w : ℕ) → w < t .count → plain d w ≡ target t x v w
-  pub labels : (w : ℕ) → w < t .count → label d w ≡ labelled t x door w
+  pub under : plain d x ≡ v
+  pub parents : (w : ℕ) → w < t .count → w ≢ x → plain d w ≡ plain t w
+  pub labelled : label d x ≡ door
+  pub labels : (w : ℕ) → w < t .count → w ≢ x → label d w ≡ label t w

@@ -1,30 +1,26 @@
 -- A link keeps the rules of inspection, is the plain list's step, and pays for itself.
 use mathlib.Core.Path.{_≡_, refl, ap, sym, _∙_}
-use mathlib.Core.Logic.{_⊎_, inl, inr, _≢_}
+use mathlib.Core.Logic.{inl, inr, _≢_}
 use Prim.Native.Nat.{ℕ, _+_, _*_, _≤_, _<_}
 use native.Mathlib.Decide.{ℕ-discrete}
 use native.Mathlib.Omega.{arith}
-use lib.Dec.{eqb}
-use lib.ListN.{length}
-use Rattle.laws.specs.Test.{pick, says-true, says-false, says-eqb}
+use Rattle.laws.specs.Test.{says-true, says-false, says-eqb}
 use Rattle.tree_laws.specs.Ancestor.{none, Anc, here, there, Forest}
 use Rattle.tree_laws.specs.AncestorLaws.{row-some, anc-in}
-use Rattle.tree_laws.specs.Top.{top-first, top-is, top-anc}
+use Rattle.tree_laws.specs.Top.{top-is, top-anc}
 use Rattle.rows.specs.Capacity.{capacityLimit}
 use Rattle.rows.specs.Table.{Table, parent, depth, label, level}
 use Rattle.rows.specs.PlainTree.{first, root, plain}
 use Rattle.rows.specs.StoredTree.{labelLimit}
-use Rattle.rows.specs.Rules.{Recorded, Rules, Numbered, numbered, rules-of}
+use Rattle.rows.specs.Rules.{Rules, Numbered, numbered, rules-of}
 use Rattle.growth_laws.specs.Below.{JoinedLeaf, Grows, grows-recorded, plain-old, plain-joined}
 use Rattle.growth_laws.specs.Joined.{SameNode}
 use Rattle.growth_laws.specs.Lag.{lag, worth, perJoin, Paid}
 use Rattle.growth_laws.specs.LoneLaws.{parted-numbered, parted-lag}
-use Rattle.growth_laws.specs.Older.{Older}
 use Rattle.growth_laws.specs.Trees.{own-trees, stored}
-use Rattle.link_laws.specs.Joinings.{Joinings}
 use Rattle.link_laws.specs.JoiningsLaws.{joinings-numbered, joinings-pay, joinings-count, joinings-rows, joinings-rest, Came, joinings-came}
-use Rattle.link_laws.specs.Link.{target, labelled, Linkable, Linked, PlainLink}
-use Rattle.link_laws.specs.Order.{isOfTree, treeRows}
+use Rattle.link_laws.specs.Link.{target, labelled, Linked, PlainLink}
+use Rattle.link_laws.specs.Order.{treeRows}
 use Rattle.link_laws.specs.OrderLaws.{order-once, order-before, order-length}
 
 module _ {capacity : ℕ} {t d : Table} {x v door k : ℕ} (r : Rules capacity t) (small : capacity ≤ capacityLimit) (q : Linked t d x v door k) where
@@ -100,17 +96,26 @@ module _ {capacity : ℕ} {t d : Table} {x v door k : ℕ} (r : Rules capacity t
   pub link-keeps-rules : Rules capacity d
   link-keeps-rules = rules-of (grows-recorded r small link-numbered grows (omega (arith, count-is, r .one .count))) link-numbered
 
+  -- where row w comes, and its label
+  plain-is : {w : ℕ} → w < t .count → plain d w ≡ target t x v w
+  plain-is {w} l = elim (ℕ-discrete (first t w) (first t x)) [
+    | yes e ↦ plain-joined r small link-numbered grows w (omega (arith, count-is)) (λ p. p .other e) ∙ came l e .under
+    | no n ↦ plain-old r small link-numbered grows w record { inside = l; other = n } ∙ (rw (says-false (says-eqb w x) (λ z. n (ap (first t) z))) refl)
+  ]
+
+  label-is : {w : ℕ} → w < t .count → label d w ≡ labelled t x door w
+  label-is {w} l = elim (ℕ-discrete (first t w) (first t x)) [
+    | yes e ↦ came l e .label
+    | no n ↦ rest record { inside = l; other = n } .sameLabel ∙ q .labels w l ∙ (rw (says-false (says-eqb w x) (λ z. n (ap (first t) z))) refl)
+  ]
+
   pub link-plain : PlainLink t d x v door
   link-plain = record {
     count = count-is;
-    parents = λ w l. elim (ℕ-discrete (first t w) (first t x)) [
-      | yes e ↦ plain-joined r small link-numbered grows w (omega (arith, count-is)) (λ p. p .other e) ∙ came l e .under
-      | no n ↦ plain-old r small link-numbered grows w record { inside = l; other = n } ∙ (rw (says-false (says-eqb w x) (λ z. n (ap (first t) z))) refl)
-    ];
-    labels = λ w l. elim (ℕ-discrete (first t w) (first t x)) [
-      | yes e ↦ came l e .label
-      | no n ↦ rest record { inside = l; other = n } .sameLabel ∙ q .labels w l ∙ (rw (says-false (says-eqb w x) (λ z. n (ap (first t) z))) refl)
-    ];
+    under = rw (says-true (says-eqb x x) refl) at (plain-is (q .linkable .inUse));
+    parents = λ w l n. rw (says-false (says-eqb w x) n) at (plain-is l);
+    labelled = rw (says-true (says-eqb x x) refl) at (label-is (q .linkable .inUse));
+    labels = λ w l n. rw (says-false (says-eqb w x) n) at (label-is l);
   }
 
   -- the rows renumbered are paid for by the lag and 120 for each row that joined

@@ -3,25 +3,24 @@ use mathlib.Core.Path.{_≡_, refl, ap, sym, subst, _∙_}
 use mathlib.Core.Bool.{true}
 use mathlib.Core.Logic.{_⊎_, inl, inr, _≢_}
 use mathlib.Core.List.{List, [], _∷_}
-use Prim.Native.Nat.{ℕ, suc, _+_, _-_, _≤_, _<_}
+use Prim.Native.Nat.{ℕ, _-_, _≤_, _<_}
 use native.Mathlib.Decide.{ℕ-discrete}
 use native.Mathlib.Omega.{arith}
-use lib.Dec.{eqb}
 use lib.ListN.{length}
-use Rattle.laws.specs.Sum.{countTo, sum-eq}
-use Rattle.laws.specs.Test.{pick, bit, says-true, says-false, says-eqb, says-get, says-eq}
-use Rattle.tree_laws.specs.Ancestor.{none, Anc, Forest}
+use Rattle.laws.specs.Sum.{sum-eq}
+use Rattle.laws.specs.Test.{bit, says-true, says-false, says-eqb, says-get, says-eq}
+use Rattle.tree_laws.specs.Ancestor.{none, Anc}
 use Rattle.tree_laws.specs.AncestorLaws.{cases}
 use Rattle.tree_laws.specs.ChildLinks.{Member}
 use Rattle.tree_laws.specs.Chains.{Once, isIn, says-in, once-count}
 use Rattle.tree_laws.specs.Depth.{Depth, Steps, arrived, step}
 use Rattle.tree_laws.specs.DepthLaws.{steps-depth, anc-steps}
 use Rattle.tree_laws.specs.PlainDepthLaws.{plain-depth}
-use Rattle.tree_laws.specs.Reroot.{PlainParent, root as top}
+use Rattle.tree_laws.specs.Reroot.{root as top}
 use Rattle.tree_laws.specs.RerootLaws.{plain-is, plain-root-over}
 use Rattle.tree_laws.specs.SizeDepth.{depth-below}
 use Rattle.rows.specs.Capacity.{capacityLimit}
-use Rattle.rows.specs.Table.{Table, parent, depth}
+use Rattle.rows.specs.Table.{Table, depth}
 use Rattle.rows.specs.PlainTree.{first, root, plain}
 use Rattle.rows.specs.Rules.{Rules, Numbered, numbered}
 use Rattle.numbering.specs.Numbered.{shape, storedTree, InTree, in-tree, first-is, stored-kindred}
@@ -149,8 +148,8 @@ module _ {capacity : ℕ} {t : Table} {x v door : ℕ} (r : Rules capacity t) (s
     nearer w i j = elim (ℕ-discrete w x) [
       | yes z ↦ absurd (h .other (first-is num (rw (says-true (says-eqb w x) z) at j)))
       | no n ↦
-          let s = some (i .inUse) (first-is num i) n in
-          rw (says-false (says-eqb w x) n, plain-tree r small i) (omega (arith, deep .step w (i .inUse) s))
+          let e : target t x v w ≡ treeParent t (first t x) w = rw (says-false (says-eqb w x) n) (plain-tree r small i) in
+          rw e (omega (arith, deep .step w (i .inUse) (some (i .inUse) (first-is num i) n)))
     ]
 
     before-from : (ys : List ℕ) → ((w : ℕ) → Member ys w → InTree t (first t x) w) → Rises (Precedes t x) ys → Before (target t x v) ys

@@ -1,15 +1,15 @@
 -- The line from the linked root up to the first row of its tree is turned round: each row of it comes under the one below it, and the root under v. With
 -- the stored parents elsewhere, the column then holds the target of every row of the tree.
 use mathlib.Core.Path.{_≡_, refl, ap, sym, _∙_}
-use mathlib.Core.Logic.{_⊎_, inl, inr, _≢_}
+use mathlib.Core.Logic.{inl, inr, _≢_}
 use Prim.Native.Nat.{ℕ, zero, suc, _≤_, _<_}
 use native.Mathlib.Decide.{ℕ-discrete}
 use native.Mathlib.Omega.{arith}
 use lib.Dec.{eqb}
 use Rattle.laws.specs.Test.{pick, says-true, says-false, says-eqb}
 use Rattle.tree_laws.specs.Ancestor.{none, Anc, here, there, Forest}
-use Rattle.tree_laws.specs.AncestorLaws.{cases, no-loop, trans, decAnc, anc-in}
-use Rattle.tree_laws.specs.Reroot.{PlainParent, root, turned, kept, plainParent}
+use Rattle.tree_laws.specs.AncestorLaws.{cases, no-loop}
+use Rattle.tree_laws.specs.Reroot.{PlainParent, root, turned, kept}
 use Rattle.renumbering.specs.Column.{put, put-same, put-other}
 
 -- from z up, at most fuel rows on: z comes under `under`, the row above z under z, and so on

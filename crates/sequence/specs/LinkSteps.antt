@@ -1,12 +1,11 @@
 -- A link, where the table stands beside the plain list: refused as it refuses, or served, and the table stands beside it again.
-use mathlib.Core.Path.{_≡_, refl, sym, ap, _∙_}
+use mathlib.Core.Path.{_≡_, sym, ap, _∙_}
 use mathlib.Core.Bool.{true}
 use mathlib.Core.Logic.{_≢_}
 use mathlib.Core.List.{List}
 use Prim.Native.Nat.{ℕ, _≤_, _<_}
 use native.Mathlib.Decide.{decLt, ℕ-discrete}
 use native.Mathlib.Omega.{arith}
-use borrow.Author.Tests.{eq-eqb, ne-eqb}
 use lib.Dec.{eqb}
 use lib.ListN.{length}
 use Rattle.laws.specs.Test.{says-true, says-false, says-eqb, says-eq, bit}
@@ -90,10 +89,10 @@ module _ {c : ℕ} {f : Fast} {p : PlainList} {total joined : ℕ} (s : Stands c
         rules = e .rules;
         proper = proper-link (s .proper) door h i top d;
         shows = shows-link (s .proper) (s .shows) h
-            (e .plain .parents x (in-use s h) ∙ (rw (eq-eqb x x refl) refl))
-            (e .plain .labels x (in-use s h) ∙ (rw (eq-eqb x x refl) refl))
-            (λ w l n. e .plain .parents w (in-use s l) ∙ (rw (ne-eqb w x n) refl))
-            (λ w l n. e .plain .labels w (in-use s l) ∙ (rw (ne-eqb w x n) refl));
+            (e .plain .under)
+            (e .plain .labelled)
+            (λ w l n. e .plain .parents w (in-use s l) n)
+            (λ w l n. e .plain .labels w (in-use s l) n);
         count = link-count p x v door ∙ s .count;
         paid = omega (arith, s .paid, e .pays, tree-count h top);
       };

@@ -5,7 +5,7 @@ use Rattle.growth.specs.PlanLaws.{root-read}
 use Rattle.inspect.specs.InspectionLaws.{told-capacity}
 use Rattle.rows.specs.Row.{partsOf}
 use borrow.Author.Tests.{not-true, not-false}
-use mathlib.Core.Path.{_≡_, ap, _∙_, sym}
+use mathlib.Core.Path.{ap, _∙_, sym}
 use borrow.Author.Needs.{needs}
 use Rattle.link.proofs.check.check_link.Statement.{statement}
 use Rattle.link.proofs.check.check_link.Tie as tie

@@ -1,6 +1,5 @@
 -- `label_for`: the door's label for the root.
 use borrow.Author.Tests.{eq-eqb, ne-eqb}
-use mathlib.Core.Path.{_≡_}
 use borrow.Author.Needs.{needs}
 use Rattle.link.proofs.join.label_for.Statement.{statement}
 use Rattle.link.proofs.join.label_for.Tie as tie
