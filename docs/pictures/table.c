@@ -4,11 +4,11 @@
 
 enum { CAPACITY = 16 };
 
-static uint16_t fields[11 * CAPACITY], ancestors[122 * CAPACITY], scratch[CAPACITY];
+static uint16_t fields[12 * CAPACITY], ancestors[122 * CAPACITY], scratch[CAPACITY];
 static uint64_t numbers[2 * CAPACITY];
 static int32_t levels[CAPACITY];
 
-#define PARTS fields, 11 * CAPACITY, numbers, 2 * CAPACITY, levels, CAPACITY, ancestors, 122 * CAPACITY
+#define PARTS fields, 12 * CAPACITY, numbers, 2 * CAPACITY, levels, CAPACITY, ancestors, 122 * CAPACITY
 
 /* Parents in order of arrival; ROOT stands for a new root. */
 #define ROOT 65535
@@ -27,7 +27,7 @@ int main(void) {
     }
     printf("%u %u\n", (unsigned)out[0], (unsigned)root);
     for (unsigned x = 0; x < out[0]; x++) {
-        for (unsigned k = 0; k < 10; k++) printf("%u ", (unsigned)fields[11 * x + k]);
+        for (unsigned k = 0; k < 10; k++) printf("%u ", (unsigned)fields[12 * x + k]);
         printf("%llu %llu %d\n", (unsigned long long)numbers[2 * x], (unsigned long long)numbers[2 * x + 1], (int)levels[x]);
     }
     return 0;

@@ -7,7 +7,7 @@ use crate::random::Random;
 use crate::tally::{check, equal};
 
 const CAPACITY: usize = 128;
-const BYTES: usize = 36_610;
+const BYTES: usize = 36_866;
 const LISTS: usize = 12;
 const DAMAGED: usize = 10_000;
 
@@ -188,7 +188,7 @@ pub fn damaged() -> String {
             let place = match random.below(4) {
                 0 => random.below(BYTES),
                 1 => random.below(2),
-                2 => 2 + random.below(22 * (1 + round / 24).min(CAPACITY)),
+                2 => 2 + random.below(24 * (1 + round / 24).min(CAPACITY)),
                 _ => 3074 + random.below(16 * (1 + round / 24).min(CAPACITY)),
             };
             tree.bytes.part_mut()[place] = if random.one_in(2) { random.word() as u8 } else { random.below(4) as u8 };

@@ -27,7 +27,7 @@ fn refusal_of_growth(grown: Grown) -> u16 {
 
 // Set-up on parts for two rows, with these ancestor entries.
 fn set_up_on(ancestors: &mut [u16]) -> u16 {
-    let mut fields = [7u16; 22];
+    let mut fields = [7u16; 24];
     let mut numbers = [7u64; 4];
     let mut levels = [7i32; 2];
     refusal_of_set_up(set_up(&mut fields, &mut numbers, &mut levels, ancestors))
@@ -45,7 +45,7 @@ fn set_up_short() -> u16 {
 
 // Set-up on parts for no row.
 fn set_up_none() -> u16 {
-    let mut fields = [7u16; 22];
+    let mut fields = [7u16; 24];
     let mut numbers = [7u64; 4];
     let mut levels = [7i32; 2];
     let mut ancestors = [7u16; 244];
@@ -59,7 +59,7 @@ fn set_up_none() -> u16 {
 
 // A new root on an empty table of two rows, with this scratch.
 fn root_on(scratch: &[u16]) -> u16 {
-    let mut fields = [7u16; 22];
+    let mut fields = [7u16; 24];
     let mut numbers = [7u64; 4];
     let mut levels = [7i32; 2];
     let mut ancestors = [7u16; 244];
