@@ -1,18 +1,22 @@
 -- A link keeps the rules of inspection, is the plain list's step, and pays for itself.
 use mathlib.Core.Path.{_≡_, refl, ap, sym, _∙_}
 use mathlib.Core.Logic.{inl, inr, _≢_}
-use Prim.Native.Nat.{ℕ, _+_, _*_, _≤_, _<_}
+use Prim.Native.Nat.{ℕ, suc, _+_, _*_, _≤_, _<_}
+use lib.IntN.{ℤ, pos, _+ℤ_, +ℤ-assoc}
 use native.Mathlib.Decide.{ℕ-discrete}
 use native.Mathlib.Omega.{arith}
 use Rattle.laws.specs.Test.{says-true, says-false, says-eqb}
 use Rattle.tree_laws.specs.Ancestor.{none, Anc, here, there, Forest}
 use Rattle.tree_laws.specs.AncestorLaws.{row-some, anc-in}
+use Rattle.tree_laws.specs.Depth.{Steps, arrived, step}
 use Rattle.tree_laws.specs.Top.{top-is, top-anc}
 use Rattle.rows.specs.Capacity.{capacityLimit}
 use Rattle.rows.specs.Table.{Table, parent, depth, label, level}
 use Rattle.rows.specs.PlainTree.{first, root, plain}
 use Rattle.rows.specs.StoredTree.{labelLimit}
 use Rattle.rows.specs.Rules.{Rules, Numbered, numbered, rules-of}
+use Rattle.numbering.specs.LevelLaws.{treeParent, plain-tree, parent-in}
+use Rattle.numbering.specs.Numbered.{InTree, first-is}
 use Rattle.growth_laws.specs.Below.{JoinedLeaf, Grows, grows-recorded, plain-old, plain-joined}
 use Rattle.growth_laws.specs.Joined.{SameNode}
 use Rattle.growth_laws.specs.Lag.{lag, worth, perJoin, Paid}
@@ -21,7 +25,7 @@ use Rattle.growth_laws.specs.Trees.{own-trees, stored}
 use Rattle.link_laws.specs.JoiningsLaws.{joinings-numbered, joinings-pay, joinings-count, joinings-rows, joinings-rest, Came, joinings-came}
 use Rattle.link_laws.specs.Link.{target, labelled, Linked, PlainLink}
 use Rattle.link_laws.specs.Order.{treeRows}
-use Rattle.link_laws.specs.OrderLaws.{order-once, order-before, order-length}
+use Rattle.link_laws.specs.OrderLaws.{in-x, steps-depth-under, order-once, order-before, order-length}
 
 module _ {capacity : ℕ} {t d : Table} {x v door k : ℕ} (r : Rules capacity t) (small : capacity ≤ capacityLimit) (q : Linked t d x v door k) where
   apart-numbered : Numbered (q .apart)
@@ -117,6 +121,27 @@ module _ {capacity : ℕ} {t d : Table} {x v door k : ℕ} (r : Rules capacity t
     labelled = rw (says-true (says-eqb x x) refl) at (label-is (q .linkable .inUse));
     labels = λ w l n. rw (says-false (says-eqb w x) n) at (label-is l);
   }
+
+  -- levels shift by as much as brings x one below v: a row k steps below x comes k + 1 below v
+  level-over : level d v ≡ level t v
+  level-over = let p : Stays v = record { inside = q .linkable .over; other = q .linkable .other } in rest p .sameLevel ∙ q .levels v (p .inside) (p .other)
+
+  below-x : {k w : ℕ} → w < t .count → first t w ≡ first t x → Steps (plain t) x (suc k) w → w ≢ x
+  below-x {k} {w} l e s z =
+      let i = in-x r small (q .linkable) l e in
+      let own : Steps (plain t) x 0 w = rw z arrived in
+      omega (arith, steps-depth-under r small (q .linkable) i s, steps-depth-under r small (q .linkable) i own)
+
+  pub link-levels : {k w : ℕ} → w < t .count → first t w ≡ first t x → Steps (plain t) x k w → level d w ≡ level t v +ℤ pos (k + 1)
+  link-levels l e arrived = rw (says-true (says-eqb x x) refl, level-over) at (came l e .level)
+  link-levels {w = w} l e (step {k = k} g s) =
+      let n : w ≢ x = below-x l e (step {k = k} g s) in
+      let i = in-x r small (q .linkable) l e in
+      let under : plain t w ≡ treeParent t (first t x) w = plain-tree r small i in
+      let j : InTree t (first t x) (plain t w) = rw under (parent-in r small i (λ z. g (under ∙ z))) in
+      let above : level d w ≡ level d (plain t w) +ℤ pos 1 = rw (says-false (says-eqb w x) n) at (came l e .level) in
+      let next : suc k + 1 ≡ k + 1 + 1 = omega arith in
+      above ∙ ap (λ (z : ℤ). z +ℤ pos 1) (link-levels (j .inUse) (first-is (numbered r small) j) s) ∙ +ℤ-assoc (level t v) (pos (k + 1)) (pos 1) ∙ ap (λ (m : ℕ). level t v +ℤ pos m) (sym next)
 
   -- the rows renumbered are paid for by the lag and 120 for each row that joined
   pub link-pays : worth * lag d + k ≤ worth * lag t + perJoin * treeRows t x

@@ -120,23 +120,47 @@ module _ {capacity : ℕ} {t : Table} {x v door : ℕ} (r : Rules capacity t) (s
 
   -- Laws of every such order
 
+  -- what comes before lies no deeper, and of two rows of one depth has the smaller number
+  precedes-depth : {w y : ℕ} → InTree t (first t x) w → InTree t (first t x) y → Precedes t x w y
+      → (depthUnder t x w < depthUnder t x y) ⊎ ((depthUnder t x w ≡ depthUnder t x y) × (w < y))
+  precedes-depth i j p =
+      let a = steps-depth-under i (p .under) in
+      let b = steps-depth-under j (p .underAfter) in
+      elim (p .sooner) [ inl l ↦ inl (omega arith) | inr l ↦ inr (omega (arith, l .0), l .1) ]
+
+  never-both : {w y : ℕ} → InTree t (first t x) w → InTree t (first t x) y → Precedes t x w y → Precedes t x y w → ⊥
+  never-both i j p q = elim (precedes-depth i j p) [
+    | inl l ↦ elim (precedes-depth j i q) [ inl k ↦ omega arith | inr k ↦ omega (arith, k .0) ]
+    | inr l ↦ elim (precedes-depth j i q) [ inl k ↦ omega (arith, l .0) | inr k ↦ omega (arith, l .1, k .1) ]
+  ]
+
+  never-self : {w y : ℕ} → InTree t (first t x) w → y ≡ w → Precedes t x y w → ⊥
+  never-self i e p = let q = rw e at p in never-both i i q q
+
+  -- each row once
+  once-from : (ys : List ℕ) → ((w : ℕ) → Member ys w → InTree t (first t x) w) → Rises (Precedes t x) ys → Once ys
+  once-from [] i p = tt
+  once-from (y ∷ ys) i p =
+      (λ m. never-self (i y (inl refl)) refl (p .0 y m), once-from ys (λ w m. i w (inr m)) (p .1))
+
+  -- lists of the same rows are the same
+  same-from : (zs ys : List ℕ) → ((w : ℕ) → Member zs w → InTree t (first t x) w) → Rises (Precedes t x) zs → Rises (Precedes t x) ys
+      → ((w : ℕ) → Member zs w → Member ys w) → ((w : ℕ) → Member ys w → Member zs w) → zs ≡ ys
+  same-from [] [] i p q f g = refl
+  same-from [] (y ∷ ys) i p q f g = absurd (g y (inl refl))
+  same-from (z ∷ zs) [] i p q f g = absurd (f z (inl refl))
+  same-from (z ∷ zs) (y ∷ ys) i p q f g =
+      let j = i y (g y (inl refl)) in
+      let e : z ≡ y = elim (f z (inl refl)) [
+        | inl e ↦ e
+        | inr m ↦ elim (g y (inl refl)) [ inl e ↦ sym e | inr k ↦ absurd (never-both j (i z (inl refl)) (q .0 z m) (p .0 y k)) ]
+      ] in
+      let rest : zs ≡ ys = same-from zs ys (λ w m. i w (inr m)) (p .1) (q .1)
+      (λ w m. elim (f w (inr m)) [ inl o ↦ absurd (never-self (i w (inr m)) (e ∙ sym o) (p .0 w m)) | inr k ↦ k ])
+      (λ w m. elim (g w (inr m)) [ inl o ↦ absurd (never-self (i w (g w (inr m))) (sym e ∙ sym o) (q .0 w m)) | inr k ↦ k ]) in
+      rw (e, rest) refl
+
   module _ {zs : List ℕ} (o : Order t x zs) where
-    -- what comes before lies no deeper, and is another row
-    precedes-depth : {w y : ℕ} → InTree t (first t x) w → InTree t (first t x) y → Precedes t x w y
-        → (depthUnder t x w < depthUnder t x y) ⊎ ((depthUnder t x w ≡ depthUnder t x y) × (w < y))
-    precedes-depth i j p =
-        let a = steps-depth-under i (p .under) in
-        let b = steps-depth-under j (p .underAfter) in
-        elim (p .sooner) [ inl l ↦ inl (omega arith) | inr l ↦ inr (omega (arith, l .0), l .1) ]
-
-    -- each row once
-    once-from : (ys : List ℕ) → ((w : ℕ) → Member ys w → InTree t (first t x) w) → Rises (Precedes t x) ys → Once ys
-    once-from [] i p = tt
-    once-from (y ∷ ys) i p = (
-      λ m. elim (precedes-depth (i y (inl refl)) (i y (inl refl)) (p .0 y m)) [ inl l ↦ omega arith | inr l ↦ omega (arith, l .1) ],
-      once-from ys (λ w m. i w (inr m)) (p .1),
-    )
-
     own : (w : ℕ) → Member zs w → InTree t (first t x) w
     own w m = in-x (o .inside w m) (o .moved w m)
 
@@ -164,6 +188,12 @@ module _ {capacity : ℕ} {t : Table} {x v door : ℕ} (r : Rules capacity t) (s
       ],
       before-from ys (λ w m. i w (inr m)) (p .1),
     )
+
+    -- there is no other such list
+    pub order-one : zs ≡ linkOrder t x
+    order-one =
+        let u = link-ordered in
+        same-from zs (linkOrder t x) own (o .rises) (u .rises) (λ w m. u .all w (o .inside w m) (o .moved w m)) (λ w m. o .all w (u .inside w m) (u .moved w m))
 
     -- targets first
     pub order-before : Before (target t x v) zs

@@ -1,6 +1,6 @@
 -- The line from the linked root up to the first row of its tree is turned round: each row of it comes under the one below it, and the root under v. With
 -- the stored parents elsewhere, the column then holds the target of every row of the tree.
-use mathlib.Core.Path.{_≡_, refl, ap, sym, _∙_}
+use mathlib.Core.Path.{_≡_, ap, sym, _∙_}
 use mathlib.Core.Logic.{inl, inr, _≢_}
 use Prim.Native.Nat.{ℕ, zero, suc, _≤_, _<_}
 use native.Mathlib.Decide.{ℕ-discrete}
@@ -9,7 +9,6 @@ use lib.Dec.{eqb}
 use Rattle.laws.specs.Test.{pick, says-true, says-false, says-eqb}
 use Rattle.tree_laws.specs.Ancestor.{none, Anc, here, there, Forest}
 use Rattle.tree_laws.specs.AncestorLaws.{cases, no-loop}
-use Rattle.tree_laws.specs.Reroot.{PlainParent, root, turned, kept}
 use Rattle.renumbering.specs.Column.{put, put-same, put-other}
 
 -- from z up, at most fuel rows on: z comes under `under`, the row above z under z, and so on
@@ -50,9 +49,3 @@ module _ {up rank : ℕ → ℕ} {n : ℕ} (t : Forest up rank n) where
     | inr s ↦ rw (says-false (says-eqb (up z) none) (s .0))
         (turned-on f (put col z under) (up z) z w c (t .inside z l (s .0)) (omega (arith, t .falls z l (s .0))) g e (s .1))
   ]
-
-  -- from the stored parents: x comes under v, every other row under its plain parent by x
-  pub turned-plain : {x : ℕ} (v : ℕ) → x < n → {w y : ℕ} → w ≢ x → PlainParent up x w y → turnedUp up (rank x) up x v w ≡ y
-  turned-plain {x} v l n root = absurd (n refl)
-  turned-plain {x} v l {w} n (turned {y = c} g e p) = turned-on (rank x) up x v w c l (omega arith) g e p
-  turned-plain {x} v l {w} n (kept d) = turned-off (rank x) up x v w l (omega arith) d
