@@ -15,9 +15,9 @@ ghost use Rattle.growth.specs.Good.{Held};
 ghost use Rattle.growth.specs.Store.{stored};
 ghost use Rattle.link.specs.Link.{joinedTree, LinkCall};
 
-pub mod check;
+mod check;
 mod detach;
-pub mod join;
+mod join;
 mod sort;
 
 // A link that was served: how many rows its joins renumbered, added up.
