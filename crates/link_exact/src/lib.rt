@@ -1,1 +1,1 @@
-// A tree linked under a row of another tree, as a relation between tables: no code.
+// On every table that passes inspection the code's link is the link by meaning: no code.
