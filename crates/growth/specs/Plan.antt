@@ -1,5 +1,5 @@
--- What a growth decides before its first store: the refusals in their order (first node 3, 2, 4; leaf 3, 1, 5, 2, 4; new root over x 3, 1, 4, 10, 2, 4; 01's new root
--- 3, 2, 4), the leaf, its upper row, and the head.
+-- What a growth decides before its first store: the refusals in their order (first node 3, 2, 4; leaf 3, 1, 5, 2, 4; new root over x 3, 1, 4, 10, 2,
+-- 4; 01's new root 3, 2, 4), the leaf, its upper row, and the head.
 use mathlib.Core.Bool.{Bool, true, false, _&&_, _||_, not}
 use mathlib.Core.List.{List}
 use Prim.Native.Nat.{ℕ}
@@ -148,7 +148,8 @@ overWithin t c scratch s x =
 unfoldable pub overPlan : Parts → ℕ → State → ℕ → Planned
 overPlan t scratch s x = onFit (capacityOf t) (λ c. overWithin t c scratch s x) (Refuse Misfit)
 
--- a first node where there is none, else a new root over the root of the first tree, that of row 0, in parts that fit the capacity c (01's; 02, "a log and a byte tree keep to the first tree")
+-- a first node where there is none, else a new root over the root of the first tree, that of row 0, in parts that fit the capacity c (01's; 02, "a
+-- log and a byte tree keep to the first tree")
 unfoldable pub rootWithin : Parts → ℕ → ℕ → State → Planned
 rootWithin t c scratch s =
     provided (eqb scratch c) Misfit

@@ -1,4 +1,5 @@
--- Levels (01, "Images and plain tree"): differences of levels count steps in the plain tree, and tell the rows on the line from the first row of a tree to its root.
+-- Levels (01, "Images and plain tree"): differences of levels count steps in the plain tree, and tell the rows on the line from the first row of a
+-- tree to its root.
 use mathlib.Core.Path.{_≡_, refl, ap, sym, _∙_}
 use mathlib.Core.Logic.{inl, inr, _≢_}
 use Prim.Native.Nat.{ℕ, suc, _+_, _≤_, _<_}

@@ -1,4 +1,4 @@
--- The plain trees that a table records (01, "Images and plain tree"): each stored tree rooted at its root.
+-- The plain trees that a table records (01, "Images and plain tree"): each stored tree re-rooted at the root that its first row records.
 use Prim.Native.Nat.{ℕ}
 use Rattle.tree_laws.specs.Reroot.{plainParent}
 use Rattle.tree_laws.specs.Top.{topOf}

@@ -35,7 +35,8 @@ unfoldable pub toldAll : List Call → List PlainCall
 toldAll [] = []
 toldAll (q ∷ qs) = told q ∷ toldAll qs
 
--- a refusal's number; a new node and the rows renumbered; the rows that a link's joinings renumbered, added up; the six values of a question; 1 or 0 for alike; whether inspection passes
+-- a refusal's number; a new node and the rows renumbered; the rows that a link's joinings renumbered, added up; the six values of a question; 1 or 0
+-- for alike; whether inspection passes
 pub data Reply : Type 0 where
   refused : ℕ → Reply
   grown : (node rows : ℕ) → Reply
