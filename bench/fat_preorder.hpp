@@ -8,7 +8,7 @@
 #include <vector>
 
 // Straightforward: each of the 122 entries by its rule. Tuned: the upper row's entries and the row itself from one index on, in loops that compile to
-// vector code, as the engine has them.
+// vector code.
 template <bool TUNED> class FatPreorder {
 public:
     static constexpr const char *name = "C++";
