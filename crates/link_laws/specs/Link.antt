@@ -5,7 +5,7 @@ use mathlib.Core.List.{List}
 use Prim.Native.Nat.{ℕ, _≤_, _<_}
 use lib.Dec.{eqb}
 use Rattle.laws.specs.Test.{pick}
-use Rattle.rows.specs.Table.{Table, label, level}
+use Rattle.rows.specs.Table.{Table, parent, label, level}
 use Rattle.rows.specs.PlainTree.{first, root, plain}
 use Rattle.rows.specs.StoredTree.{labelLimit}
 use Rattle.growth_laws.specs.Lone.{Parted}
@@ -41,6 +41,11 @@ pub record Linked (t d : Table) (x v door k : ℕ) : Type 0 where
   pub ordered : Order t x order
   pub joins : Joinings (target t x v) (labelled t x door) apart d order k
   pub roots : (f : ℕ) → f < t .count → first t f ≢ first t x → d .root f ≡ t .root f
+
+-- the rows of the linked tree are stored under their targets, the others where they were
+pub record StoredLink (t d : Table) (x v : ℕ) : Type 0 where
+  pub moved : (w : ℕ) → w < t .count → first t w ≡ first t x → parent d w ≡ target t x v w
+  pub rest : (w : ℕ) → w < t .count → first t w ≢ first t x → parent d w ≡ parent t w
 
 -- the plain trees of d are those of t, but that x comes under v and takes the door's label
 pub record PlainLink (t d : Table) (x v door : ℕ) : Type 0 where

@@ -23,7 +23,7 @@ use Rattle.growth_laws.specs.Lag.{lag, worth, perJoin, Paid}
 use Rattle.growth_laws.specs.LoneLaws.{parted-numbered, parted-lag}
 use Rattle.growth_laws.specs.Trees.{own-trees, stored}
 use Rattle.link_laws.specs.JoiningsLaws.{joinings-numbered, joinings-pay, joinings-count, joinings-rows, joinings-rest, Came, joinings-came}
-use Rattle.link_laws.specs.Link.{target, labelled, Linked, PlainLink}
+use Rattle.link_laws.specs.Link.{target, labelled, Linked, StoredLink, PlainLink}
 use Rattle.link_laws.specs.Order.{treeRows}
 use Rattle.link_laws.specs.OrderLaws.{in-x, steps-depth-under, order-once, order-before, order-length}
 
@@ -99,6 +99,9 @@ module _ {capacity : ℕ} {t d : Table} {x v door k : ℕ} (r : Rules capacity t
 
   pub link-keeps-rules : Rules capacity d
   link-keeps-rules = rules-of (grows-recorded r small link-numbered grows (omega (arith, count-is, r .one .count))) link-numbered
+
+  pub link-stored : StoredLink t d x v
+  link-stored = record { moved = λ w l e. came l e .under; rest = λ w l n. parent-rest record { inside = l; other = n } }
 
   -- where row w comes, and its label
   plain-is : {w : ℕ} → w < t .count → plain d w ≡ target t x v w

@@ -1,13 +1,15 @@
--- Runs of the plain list, computed: the log of 01, "Program and figures to check", one that meets every refusal and reply of 01, and one of several
+-- Runs of the plain list and of the stored list beside it, computed: the log of 01, "Program and figures to check", one that meets every refusal and reply of 01, and one of several
 -- trees that meets those of 02, "Coupled rooms".
 use mathlib.Core.Path.{_≡_, refl}
 use mathlib.Core.List.{List, [], _∷_}
-use Prim.Native.Nat.{ℕ}
+use Prim.Native.Nat.{ℕ, _+_}
+use Rattle.laws.specs.Tabulate.{tabulate}
 use Rattle.tree_laws.specs.Ancestor.{none}
 use Rattle.plain_list.specs.PlainList.{emptyList, withNode, withLink}
 use Rattle.plain_list.specs.Naive.{naiveAnswer, naiveSame, naiveRoot}
 use Rattle.plain_list.specs.PlainStep.{PlainCall, first, leaf, root, rootOver, link, question, alike, inspection}
 use Rattle.plain_list.specs.PlainStep.{PlainReply, refused, node, linked, answered, same, passes, treeCount, plainOutcome, plainRun}
+use Rattle.plain_list.specs.StoredList.{storedRun, storedBelow}
 
 -- an answer in the order of a printed line: nearest common ancestor, branches, distances, label
 abbrev answer : (a b c d e l : ℕ) → PlainReply
@@ -25,6 +27,16 @@ log-run : plainRun 128 emptyList log ≡ record {
 }
 unfolding plainRun plainOutcome naiveAnswer naiveRoot withNode
 log-run = refl
+
+-- in the stored tree node 3, the new root, lies under 0, the root that it went over
+log-stored : storedRun 128 emptyList [] log ≡ none ∷ 0 ∷ 1 ∷ 0 ∷ []
+unfolding storedRun plainOutcome naiveAnswer naiveRoot withNode
+log-stored = refl
+
+-- so all four lie at or below 0 there, and two at or below 1
+log-below : storedBelow (none ∷ 0 ∷ 1 ∷ 0 ∷ []) 0 + storedBelow (none ∷ 0 ∷ 1 ∷ 0 ∷ []) 1 ≡ 6
+unfolding storedBelow
+log-below = refl
 
 -- at capacity 5: two leaves with equal labels under the root, one below each, and the refusals in their order
 abbrev full : List PlainCall
@@ -60,3 +72,8 @@ coupled-run : plainRun 6 emptyList coupled ≡ record {
 }
 unfolding plainRun plainOutcome naiveAnswer naiveSame naiveRoot treeCount withNode withLink
 coupled-run = refl
+
+-- each node of a linked tree is stored under its plain parent
+coupled-stored : storedRun 6 emptyList [] coupled ≡ 5 ∷ 0 ∷ 4 ∷ 2 ∷ 1 ∷ none ∷ []
+unfolding storedRun plainOutcome naiveAnswer naiveSame naiveRoot treeCount withNode withLink tabulate
+coupled-stored = refl

@@ -9,7 +9,7 @@ use lib.Seq.{getD-at, getD-set-same, getD-set-other}
 use Rattle.tree_laws.specs.Ancestor.{none}
 use Rattle.plain_list.specs.PlainList.{PlainList, countOf, parentOf, labelOf, withNode, under, withRoot, withLink}
 
-length-one-more : (l : List ℕ) (a : ℕ) → length (l ++ (a ∷ [])) ≡ suc (length l)
+pub length-one-more : (l : List ℕ) (a : ℕ) → length (l ++ (a ∷ [])) ≡ suc (length l)
 length-one-more l a = omega (arith, length-append l (a ∷ []))
 
 module _ (p : PlainList) (v l : ℕ) where

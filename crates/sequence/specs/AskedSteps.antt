@@ -34,6 +34,7 @@ use Rattle.plain_list.specs.PlainStep.{question as plainQuestion, alike as plai
 use Rattle.plain_list.specs.PlainStepLaws.{question-served, alike-served, inspection-served}
 use Rattle.plain_list.specs.PlainStepLaws.{question-unknown, question-apart, alike-unknown, alike-apart, inspection-misfit}
 use Rattle.plain_list.specs.Shows.{roots-kindred, kindred-roots, naive-is, naive-same-is}
+use Rattle.plain_list.specs.StoredList.{StoredList}
 use Rattle.sequence.specs.Calls.{Call, question, alike, inspection, Reply, refused, same, inspected}
 use Rattle.sequence.specs.Run.{Fast, tableIn, Turn, replies, questionReply, alikeReply, inspectionReply, step}
 use Rattle.sequence.specs.Agrees.{refusals, answers, alikes, pass}
@@ -41,13 +42,13 @@ use Rattle.sequence.specs.Invariant.{Stands}
 use Rattle.sequence.specs.StepExact.{StepStands, still}
 use Rattle.sequence.specs.Trees.{in-use}
 
-module _ {c : ℕ} {f : Fast} {p : PlainList} {total joinings : ℕ} (s : Stands c f p total joinings) where
+module _ {c : ℕ} {f : Fast} {p : PlainList} {stored : StoredList} {total joinings : ℕ} (s : Stands c f p stored total joinings) where
   -- the outcomes of both sides, where neither changes anything
   pub steps-by : (q : Call) {o : PlainOutcome} {u : Turn} (r : PlainReply) (v : Reply) → o ≡ plainReplies r p → u ≡ replies f v
-      → StepStands c f total joinings q (plainReplies r p) (replies f v) → StepStands c f total joinings q o u
+      → StepStands c f p stored total joinings q (plainReplies r p) (replies f v) → StepStands c f p stored total joinings q o u
   steps-by q r v e i k = rw (e, i) k
 
-  pub still-refused : (q : Call) (n : ℕ) → StepStands c f total joinings q (refusalOf n p) (replies f (refused n))
+  pub still-refused : (q : Call) (n : ℕ) → StepStands c f p stored total joinings q (refusalOf n p) (replies f (refused n))
   still-refused q n = still s q (refusals n) refl (λ n k e. let z : _≡_ {A = ℕ} 0 1 = cc in omega arith) (λ k e. let z : _≡_ {A = ℕ} 0 1 = cc in omega arith)
 
   -- Nodes of one tree
@@ -62,27 +63,27 @@ module _ {c : ℕ} {f : Fast} {p : PlainList} {total joinings : ℕ} (s : Stands
 
   module _ (x y : ℕ) where
     question-refused : (r : Refusal) → plainOutcome c p (plainQuestion x y) ≡ refusalOf (numberOf r) p → ask (f .parts) (f .state) x y ≡ noAnswer r
-        → StepStands c f total joinings (question x y) (plainOutcome c p (plainQuestion x y)) (step f (question x y))
+        → StepStands c f p stored total joinings (question x y) (plainOutcome c p (plainQuestion x y)) (step f (question x y))
     unfolding step
     question-refused r e i = steps-by (question x y) (plainRefused (numberOf r)) (refused (numberOf r)) e
         (ap (λ (o : QuestionOutcome). replies f (questionReply o)) i) (still-refused (question x y) (numberOf r))
 
     question-given : (r : Answer) → plainOutcome c p (plainQuestion x y) ≡ plainReplies (plainAnswered r) p
         → ask (f .parts) (f .state) x y ≡ given r
-        → StepStands c f total joinings (question x y) (plainOutcome c p (plainQuestion x y)) (step f (question x y))
+        → StepStands c f p stored total joinings (question x y) (plainOutcome c p (plainQuestion x y)) (step f (question x y))
     unfolding step
     question-given r e i = steps-by (question x y) (plainAnswered r) _ e (ap (λ (o : QuestionOutcome). replies f (questionReply o)) i)
         (still s (question x y) (answers r) refl (λ n k e. let z : _≡_ {A = ℕ} 0 1 = cc in omega arith) (λ k e. let z : _≡_ {A = ℕ} 0 1 = cc in omega arith))
 
     question-answered : x < countOf p → y < countOf p → rootIn p x ≡ rootIn p y
-        → StepStands c f total joinings (question x y) (plainOutcome c p (plainQuestion x y)) (step f (question x y))
+        → StepStands c f p stored total joinings (question x y) (plainOutcome c p (plainQuestion x y)) (step f (question x y))
     question-answered l m k =
         let e = question-exact (f .parts) (f .state) x y (s .fits) (s .rules) (in-use s l) (in-use s m) (one-tree x y l m k) in
         question-given (e .value)
         (question-served c p x y l m k ∙ ap (λ (a : Answer). plainReplies (plainAnswered a) p) (naive-is (s .proper) (s .shows) l m k (e .answers)))
         (e .outcome)
 
-    pub question-step : StepStands c f total joinings (question x y) (plainOutcome c p (plainQuestion x y)) (step f (question x y))
+    pub question-step : StepStands c f p stored total joinings (question x y) (plainOutcome c p (plainQuestion x y)) (step f (question x y))
     question-step = elim (decLt x (countOf p)) [
       | no i ↦ question-refused UnknownNode (question-unknown c p x y (λ h. i (h .0)))
           (sym (question-unknown-x (f .parts) (f .state) x y (fits-told (s .fits)) (omega (arith, s .count))))
@@ -101,13 +102,13 @@ module _ {c : ℕ} {f : Fast} {p : PlainList} {total joinings : ℕ} (s : Stands
 
   module _ (x y : ℕ) where
     alike-refused : (r : Refusal) → plainOutcome c p (plainAlike x y) ≡ refusalOf (numberOf r) p → compare (f .parts) (f .state) x y ≡ noValue r
-        → StepStands c f total joinings (alike x y) (plainOutcome c p (plainAlike x y)) (step f (alike x y))
+        → StepStands c f p stored total joinings (alike x y) (plainOutcome c p (plainAlike x y)) (step f (alike x y))
     unfolding step
     alike-refused r e i = steps-by (alike x y) (plainRefused (numberOf r)) (refused (numberOf r)) e
         (ap (λ (o : AlikeOutcome). replies f (alikeReply o)) i) (still-refused (alike x y) (numberOf r))
 
     alike-answered : x < countOf p → y < countOf p → rootIn p x ≡ rootIn p y
-        → StepStands c f total joinings (alike x y) (plainOutcome c p (plainAlike x y)) (step f (alike x y))
+        → StepStands c f p stored total joinings (alike x y) (plainOutcome c p (plainAlike x y)) (step f (alike x y))
     unfolding step
     alike-answered l m k =
         let e = alike-exact (f .parts) (f .state) x y (s .fits) (s .rules) (in-use s l) (in-use s m) (one-tree x y l m k) in
@@ -117,7 +118,7 @@ module _ {c : ℕ} {f : Fast} {p : PlainList} {total joinings : ℕ} (s : Stands
         (ap (λ (o : AlikeOutcome). replies f (alikeReply o)) (e .outcome))
         (still s (alike x y) (alikes (bit b)) refl (λ n k e. let z : _≡_ {A = ℕ} 0 1 = cc in omega arith) (λ k e. let z : _≡_ {A = ℕ} 0 1 = cc in omega arith))
 
-    pub alike-step : StepStands c f total joinings (alike x y) (plainOutcome c p (plainAlike x y)) (step f (alike x y))
+    pub alike-step : StepStands c f p stored total joinings (alike x y) (plainOutcome c p (plainAlike x y)) (step f (alike x y))
     alike-step = elim (decLt x (countOf p)) [
       | no i ↦ alike-refused UnknownNode (alike-unknown c p x y (λ h. i (h .0)))
           (sym (alike-unknown-x (f .parts) (f .state) x y (fits-told (s .fits)) (omega (arith, s .count))))
@@ -142,7 +143,7 @@ module _ {c : ℕ} {f : Fast} {p : PlainList} {total joinings : ℕ} (s : Stands
   unfolding inspect
   inspection-not n d = rw (fits-told (s .fits), ne-eqb n c d) refl
 
-  pub inspection-step : (scratch : List ℕ) → StepStands c f total joinings (inspection scratch) (plainOutcome c p (plainInspection (length scratch)))
+  pub inspection-step : (scratch : List ℕ) → StepStands c f p stored total joinings (inspection scratch) (plainOutcome c p (plainInspection (length scratch)))
       (step f (inspection scratch))
   unfolding step
   inspection-step scratch = elim (ℕ-discrete (length scratch) c) [

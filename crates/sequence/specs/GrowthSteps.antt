@@ -30,6 +30,7 @@ use Rattle.plain_list.specs.PlainStep.{first as plainFirst, leaf as plainLeaf, 
 use Rattle.plain_list.specs.PlainStepLaws as plainly
 use Rattle.plain_list.specs.Proper.{root-first, proper-first, proper-leaf, proper-root}
 use Rattle.plain_list.specs.Shows.{shows-node, shows-root}
+use Rattle.plain_list.specs.StoredList.{StoredList}
 use Rattle.sequence.specs.Calls.{first, leaf, root, rootOver}
 use Rattle.sequence.specs.Run.{Fast, tableIn, step}
 use Rattle.sequence.specs.Invariant.{Stands}
@@ -37,7 +38,7 @@ use Rattle.sequence.specs.StepExact.{asks-leaf, asks-over, asks-root, be
 use Rattle.sequence.specs.Trees.{in-use, root-top, top-root, root-known, root-shown}
 use Rattle.sequence.specs.Growths.{says-label, Next, grown-step, started-step, fit, grown-refused}
 
-module _ {c : ℕ} {f : Fast} {p : PlainList} {total joinings : ℕ} (s : Stands c f p total joinings) where
+module _ {c : ℕ} {f : Fast} {p : PlainList} {stored : StoredList} {total joinings : ℕ} (s : Stands c f p stored total joinings) where
   small : c ≤ none
   small = omega (arith, s .fits .most)
 
@@ -80,18 +81,18 @@ module _ {c : ℕ} {f : Fast} {p : PlainList} {total joinings : ℕ} (s : Stands
   module _ (scratch : List ℕ) where
     first-refused : (r : Refusal) → plainOutcome c p (plainFirst (length scratch)) ≡ refusalOf (numberOf r) p
         → Refuse r ≡ firstPlan (f .parts) (length scratch) (f .state)
-        → StepStands c f total joinings (first scratch) (plainOutcome c p (plainFirst (length scratch))) (step f (first scratch))
+        → StepStands c f p stored total joinings (first scratch) (plainOutcome c p (plainFirst (length scratch))) (step f (first scratch))
     unfolding step addFirst
     first-refused r e i = grown-refused s (first scratch) r _ e i
 
     first-served : length scratch ≡ c → countOf p ≢ c
-        → StepStands c f total joinings (first scratch) (plainOutcome c p (plainFirst (length scratch))) (step f (first scratch))
+        → StepStands c f p stored total joinings (first scratch) (plainOutcome c p (plainFirst (length scratch))) (step f (first scratch))
     unfolding step
     first-served e n =
         let x = first-exact (f .parts) (f .state) (s .fits) (s .rules) (room n) (length scratch) e in
         rw (plainly.first-served c p (length scratch) e n) (started-step s _ x begins-first (first-next n x))
 
-    pub first-step : StepStands c f total joinings (first scratch) (plainOutcome c p (plainFirst (length scratch))) (step f (first scratch))
+    pub first-step : StepStands c f p stored total joinings (first scratch) (plainOutcome c p (plainFirst (length scratch))) (step f (first scratch))
     first-step = elim (ℕ-discrete (length scratch) c) [
       | no d ↦ first-refused Misfit (plainly.first-misfit c p (length scratch) d) (first-scratch (f .parts) (length scratch) (f .state) c (fit s) d)
       | yes e ↦ elim (ℕ-discrete (countOf p) c) [
@@ -106,23 +107,23 @@ module _ {c : ℕ} {f : Fast} {p : PlainList} {total joinings : ℕ} (s : Stands
   module _ (v l : ℕ) (scratch : List ℕ) where
     leaf-refused : (r : Refusal) → plainOutcome c p (plainLeaf v l (length scratch)) ≡ refusalOf (numberOf r) p
         → Refuse r ≡ leafPlan (f .parts) (length scratch) (f .state) v l
-        → StepStands c f total joinings (leaf v l scratch) (plainOutcome c p (plainLeaf v l (length scratch))) (step f (leaf v l scratch))
+        → StepStands c f p stored total joinings (leaf v l scratch) (plainOutcome c p (plainLeaf v l (length scratch))) (step f (leaf v l scratch))
     unfolding step addLeaf
     leaf-refused r e i = grown-refused s (leaf v l scratch) r _ e i
 
     leaf-served : length scratch ≡ c → v < countOf p → 1 ≤ l → l ≤ labelLimit → countOf p ≢ c
-        → StepStands c f total joinings (leaf v l scratch) (plainOutcome c p (plainLeaf v l (length scratch))) (step f (leaf v l scratch))
+        → StepStands c f p stored total joinings (leaf v l scratch) (plainOutcome c p (plainLeaf v l (length scratch))) (step f (leaf v l scratch))
     unfolding step
     leaf-served e h i j n =
         let x = leaf-exact (f .parts) (f .state) (s .fits) (s .rules) (length scratch) e (room n) v l (in-use s h) i j in
         rw (plainly.leaf-served c p v l (length scratch) e h i j n) (grown-step s _ x asks-leaf (leaf-next n h x))
 
     leaf-unlabelled : length scratch ≡ c → v < countOf p → ¬ ((1 ≤ l) × (l ≤ labelLimit))
-        → StepStands c f total joinings (leaf v l scratch) (plainOutcome c p (plainLeaf v l (length scratch))) (step f (leaf v l scratch))
+        → StepStands c f p stored total joinings (leaf v l scratch) (plainOutcome c p (plainLeaf v l (length scratch))) (step f (leaf v l scratch))
     leaf-unlabelled e h d = leaf-refused BadLabel (plainly.leaf-no-label c p v l (length scratch) e h d)
         (leaf-label (f .parts) (length scratch) (f .state) v l c (fit s) e (in-use s h) (says-false (says-label l) d))
 
-    pub leaf-step : StepStands c f total joinings (leaf v l scratch) (plainOutcome c p (plainLeaf v l (length scratch))) (step f (leaf v l scratch))
+    pub leaf-step : StepStands c f p stored total joinings (leaf v l scratch) (plainOutcome c p (plainLeaf v l (length scratch))) (step f (leaf v l scratch))
     leaf-step = elim (ℕ-discrete (length scratch) c) [
       | no d ↦ leaf-refused Misfit (plainly.leaf-misfit c p v l (length scratch) d) (leaf-scratch (f .parts) (length scratch) (f .state) v l c (fit s) d)
       | yes e ↦ elim (decLt v (countOf p)) [
@@ -151,12 +152,12 @@ module _ {c : ℕ} {f : Fast} {p : PlainList} {total joinings : ℕ} (s : Stands
   module _ (scratch : List ℕ) where
     root-refused : (r : Refusal) → plainOutcome c p (plainRoot (length scratch)) ≡ refusalOf (numberOf r) p
         → Refuse r ≡ rootPlan (f .parts) (length scratch) (f .state)
-        → StepStands c f total joinings (root scratch) (plainOutcome c p (plainRoot (length scratch))) (step f (root scratch))
+        → StepStands c f p stored total joinings (root scratch) (plainOutcome c p (plainRoot (length scratch))) (step f (root scratch))
     unfolding step addRoot
     root-refused r e i = grown-refused s (root scratch) r _ e i
 
     root-served-first : length scratch ≡ c → countOf p ≢ c → countOf p ≡ 0
-        → StepStands c f total joinings (root scratch) (plainOutcome c p (plainRoot (length scratch))) (step f (root scratch))
+        → StepStands c f p stored total joinings (root scratch) (plainOutcome c p (plainRoot (length scratch))) (step f (root scratch))
     unfolding step
     root-served-first e n z =
         let k : f .state .count ≡ 0 = sym (s .count) ∙ z in
@@ -164,7 +165,7 @@ module _ {c : ℕ} {f : Fast} {p : PlainList} {total joinings : ℕ} (s : Stands
         rw (plainly.root-served-first c p (length scratch) e n z) (started-step s _ x (begins-root k) (first-next n x))
 
     root-served : length scratch ≡ c → countOf p ≢ c → countOf p ≢ 0
-        → StepStands c f total joinings (root scratch) (plainOutcome c p (plainRoot (length scratch))) (step f (root scratch))
+        → StepStands c f p stored total joinings (root scratch) (plainOutcome c p (plainRoot (length scratch))) (step f (root scratch))
     unfolding step
     root-served e n z =
         let l : 0 < countOf p = omega arith in
@@ -172,7 +173,7 @@ module _ {c : ℕ} {f : Fast} {p : PlainList} {total joinings : ℕ} (s : Stands
         let t : parentOf p (rootOf (tableIn f) 0) ≡ none = ap (parentOf p) (sym (root-shown s 0 l)) ∙ root-first (s .proper) 0 l .top in
         rw (plainly.root-served c p (length scratch) e n z, root-shown s 0 l) (grown-step s _ x asks-root (root-next n (root-known s 0 l) t x))
 
-    pub root-step : StepStands c f total joinings (root scratch) (plainOutcome c p (plainRoot (length scratch))) (step f (root scratch))
+    pub root-step : StepStands c f p stored total joinings (root scratch) (plainOutcome c p (plainRoot (length scratch))) (step f (root scratch))
     root-step = elim (ℕ-discrete (length scratch) c) [
       | no d ↦ root-refused Misfit (plainly.root-misfit c p (length scratch) d) (root-scratch (f .parts) (length scratch) (f .state) c (fit s) d)
       | yes e ↦ elim (ℕ-discrete (countOf p) c) [
@@ -187,19 +188,19 @@ module _ {c : ℕ} {f : Fast} {p : PlainList} {total joinings : ℕ} (s : Stands
   module _ (x : ℕ) (scratch : List ℕ) where
     over-refused : (r : Refusal) → plainOutcome c p (plainOver x (length scratch)) ≡ refusalOf (numberOf r) p
         → Refuse r ≡ overPlan (f .parts) (length scratch) (f .state) x
-        → StepStands c f total joinings (rootOver x scratch) (plainOutcome c p (plainOver x (length scratch))) (step f (rootOver x scratch))
+        → StepStands c f p stored total joinings (rootOver x scratch) (plainOutcome c p (plainOver x (length scratch))) (step f (rootOver x scratch))
     unfolding step addOver
     over-refused r e i = grown-refused s (rootOver x scratch) r _ e i
 
     over-served : length scratch ≡ c → x < countOf p → parentOf p x ≡ none → countOf p ≢ c
-        → StepStands c f total joinings (rootOver x scratch) (plainOutcome c p (plainOver x (length scratch))) (step f (rootOver x scratch))
+        → StepStands c f p stored total joinings (rootOver x scratch) (plainOutcome c p (plainOver x (length scratch))) (step f (rootOver x scratch))
     unfolding step
     over-served e h t n =
         let y = over-exact (f .parts) (f .state) (s .fits) (s .rules) (length scratch) e (room n) x (in-use s h) (top-root s h t) in
         rw (plainly.over-served c p x (length scratch) e h t n) (grown-step s _ y asks-over (root-next n h t y))
 
     over-known : length scratch ≡ c → x < countOf p
-        → StepStands c f total joinings (rootOver x scratch) (plainOutcome c p (plainOver x (length scratch))) (step f (rootOver x scratch))
+        → StepStands c f p stored total joinings (rootOver x scratch) (plainOutcome c p (plainOver x (length scratch))) (step f (rootOver x scratch))
     over-known e h =
         let g = standing-is (f .parts) (f .state) (s .rules) in
         let l = in-use s h in
@@ -215,7 +216,7 @@ module _ {c : ℕ} {f : Fast} {p : PlainList} {total joinings : ℕ} (s : Stands
           ]
         ]
 
-    pub over-step : StepStands c f total joinings (rootOver x scratch) (plainOutcome c p (plainOver x (length scratch))) (step f (rootOver x scratch))
+    pub over-step : StepStands c f p stored total joinings (rootOver x scratch) (plainOutcome c p (plainOver x (length scratch))) (step f (rootOver x scratch))
     over-step = elim (ℕ-discrete (length scratch) c) [
       | no d ↦ over-refused Misfit (plainly.over-misfit c p x (length scratch) d) (over-scratch (f .parts) (length scratch) (f .state) x c (fit s) d)
       | yes e ↦ elim (decLt x (countOf p)) [

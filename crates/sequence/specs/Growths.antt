@@ -1,33 +1,43 @@
 -- A growth, where the table stands beside the plain list: served, and the table stands beside it again, or refused as it refuses.
-use mathlib.Core.Path.{_≡_, sym, ap, _∙_}
-use Prim.Native.Nat.{ℕ, suc, _≤_}
+use mathlib.Core.Path.{_≡_, refl, sym, ap, _∙_}
+use Prim.Native.Nat.{ℕ, suc, _≤_, _<_}
 use native.Mathlib.Omega.{arith}
+use borrow.Author.Tests.{eq-eqb, ne-eqb}
 use Rattle.laws.specs.Test.{Says, says-and, says-leb}
+use Rattle.tree_laws.specs.Ancestor.{none}
 use Rattle.rows.specs.declared.capacity.Fit.the-variants.{Capacity}
 use Rattle.rows.specs.declared.refusal.Refusal.{Refusal}
 use Rattle.rows.specs.Refusal.{numberOf}
 use Rattle.rows.specs.Capacity.{capacityOf}
-use Rattle.rows.specs.Table.{Table, label}
+use Rattle.rows.specs.Table.{Table, label, parent}
 use Rattle.rows.specs.PlainTree.{plain}
 use Rattle.rows.specs.CapacityLaws.{fits-told}
 use Rattle.rows.specs.StoredTree.{labelLimit}
+use Rattle.rows.specs.Rules.{numbered}
 use Rattle.growth.specs.declared.Grown.{Grown}
 use Rattle.growth.specs.declared.plan.Planned.{Planned}
 use Rattle.growth.specs.declared.plan.Planned.the-variants.{Refuse}
 use Rattle.growth.specs.Plan.{isLabel}
 use Rattle.growth.specs.Growth.{Outcome, grownBy}
-use Rattle.growth_laws.specs.Growth.{Growth}
+use Rattle.growth_laws.specs.Growth.{Growth, Named, named-root, parentOf}
+use Rattle.growth_laws.specs.Grown.{Grown as Grows, Started}
+use Rattle.growth_laws.specs.GrownLaws.{extended-parent, extended-lone, parent-old, parent-new}
+use Rattle.growth_laws.specs.Renumbered.{rows}
+use Rattle.growth_laws.specs.Trees.{shape-of}
 use Rattle.growth_exact.specs.GrowthExact.{GrownExactly, tableGrown}
 use Rattle.growth_exact.specs.FirstExact.{StartedExactly}
 use Rattle.plain_list.specs.PlainList.{PlainList, countOf}
 use Rattle.plain_list.specs.PlainStep.{PlainOutcome, node, refused as plainRefused, refusalOf, grows}
 use Rattle.plain_list.specs.Proper.{Proper}
 use Rattle.plain_list.specs.Shows.{Shows}
-use Rattle.sequence.specs.Calls.{Call, refused, grown}
+use Rattle.plain_list.specs.StoredList.{StoredList, storedUnder, storedBy, storedBelow}
+use Rattle.plain_list.specs.StoredListLaws.{Stores, stores-node, stores-below}
+use Rattle.sequence.specs.Calls.{Call, refused, grown, told}
 use Rattle.sequence.specs.Run.{Fast, tableIn, Turn, replies, grownReply, stateAfter, afterGrowth, rowsIn}
 use Rattle.sequence.specs.Agrees.{Agrees, nodes}
 use Rattle.sequence.specs.Invariant.{Stands}
-use Rattle.sequence.specs.StepExact.{Asks, Begins, growth, start, StepStands, few-rows}
+use Rattle.sequence.specs.StepExact.{Asks, asks-leaf, asks-root, asks-over, Begins, begins-first, begins-root, growth, start, StepStands, few-rows}
+use Rattle.sequence.specs.Trees.{root-shown}
 use Rattle.sequence.specs.AskedSteps.{steps-by, still-refused}
 
 -- what the calls ask of a label
@@ -37,7 +47,7 @@ says-label l = says-and (says-leb 1 l) (λ _. says-leb l labelLimit)
 node-agrees : {a b : ℕ} (k : ℕ) → a ≡ b → Agrees (node a) (grown b k)
 node-agrees {a} {b} k e = rw e (nodes b k)
 
-module _ {c : ℕ} {f : Fast} {p : PlainList} {total joinings : ℕ} (s : Stands c f p total joinings) where
+module _ {c : ℕ} {f : Fast} {p : PlainList} {stored : StoredList} {total joinings : ℕ} (s : Stands c f p stored total joinings) where
   -- Served
 
   -- p′ is the plain list after one node more, which left the table d
@@ -46,19 +56,44 @@ module _ {c : ℕ} {f : Fast} {p : PlainList} {total joinings : ℕ} (s : Stands
     pub shows : Shows (plain d) (label d) p′
     pub count : countOf p′ ≡ suc (countOf p)
 
+  -- the stored list has the new node under the row that the table has it under
+  under-asked : {q : Call} {g : Growth} → Named (tableIn f) g → Asks (tableIn f) q g → parentOf g ≡ storedUnder p (told q)
+  under-asked n asks-leaf = refl
+  under-asked (named-root l e) asks-root =
+      let k : 0 < countOf p = omega (arith, s .count) in
+      sym (root-shown s 0 k) ∙ (rw (ne-eqb (countOf p) 0 (λ z. omega arith)) refl)
+  under-asked n asks-over = refl
+
+  under-begun : {q : Call} → Begins (tableIn f) q → none ≡ storedUnder p (told q)
+  under-begun begins-first = refl
+  under-begun (begins-root e) = rw (eq-eqb (countOf p) 0 (s .count ∙ e)) refl
+
+  module _ {d : Table} {q : Call} where
+    stored-grown : {g : Growth} {h : ℕ} → Grows (tableIn f) d g h → Asks (tableIn f) q g
+        → Stores (parent d) (suc (f .state .count)) (storedBy p stored (told q) (node (countOf p)))
+    stored-grown k a =
+        let r = numbered (s .rules) (s .fits .most) in
+        stores-node (s .stored) (parent-old r k) (parent-new r k ∙ under-asked (k .named) a)
+
+    stored-begun : Started (tableIn f) d → Begins (tableIn f) q → Stores (parent d) (suc (f .state .count)) (storedBy p stored (told q) (node (countOf p)))
+    stored-begun k a =
+        let r = numbered (s .rules) (s .fits .most) in
+        stores-node (s .stored) (extended-parent r (k .extended)) (extended-lone r (k .extended) .parentNone ∙ under-begun a)
+
   module _ (o : Outcome) where
     -- the turn that a growth takes
     abbrev turn : Grown → Turn
     turn y = record { reply = grownReply y; after = record { parts = o .parts; state = stateAfter (f .state) y } }
 
     pub grown-step : {q : Call} {g : Growth} {p′ : PlainList} → GrownExactly c (f .parts) (f .state) g o → Asks (tableIn f) q g
-        → Next (tableGrown (f .state) o) p′ → StepStands c f total joinings q (grows p p′) (afterGrowth (f .state) o)
+        → Next (tableGrown (f .state) o) p′ → StepStands c f p stored total joinings q (grows p p′) (afterGrowth (f .state) o)
     grown-step {q} {g} {p′} e a n = rw (ap turn (e .answered)) record {
       exact = record {
         agrees = node-agrees _ (s .count);
         few = λ x y _. few-rows (f .parts) (s .fits) (f .state) x y;
-        renumbers = λ m k i. growth (e .head) a (e .grown) (sym (ap rowsIn i));
+        renumbers = λ m k i. growth (e .head) a (e .grown) (sym (ap rowsIn i) ∙ below);
         links = λ k i. absurd (let z : _≡_ {A = ℕ} 0 1 = cc in omega arith);
+        stored = after;
         kept = λ n i. absurd (let z : _≡_ {A = ℕ} 0 1 = cc in omega arith);
       };
       stands = record {
@@ -67,18 +102,27 @@ module _ {c : ℕ} {f : Fast} {p : PlainList} {total joinings : ℕ} (s : Stands
         proper = n .proper;
         shows = n .shows;
         count = n .count ∙ ap suc (s .count);
+        stored = after;
         paid = omega (arith, s .paid, e .pays);
       };
     }
+      where
+        after : Stores (parent (tableGrown (f .state) o)) (suc (f .state .count)) (storedBy p stored (told q) (node (countOf p)))
+        after = stored-grown (e .grown) a
+
+        -- the rows at or below the head, over the stored list
+        below : rows (tableGrown (f .state) o) (e .head) ≡ storedBelow (storedBy p stored (told q) (node (countOf p))) (e .head)
+        below = stores-below (shape-of (numbered (e .rules) (s .fits .most))) after (e .head)
 
     pub started-step : {q : Call} {p′ : PlainList} → StartedExactly c (f .parts) (f .state) o → Begins (tableIn f) q
-        → Next (tableGrown (f .state) o) p′ → StepStands c f total joinings q (grows p p′) (afterGrowth (f .state) o)
+        → Next (tableGrown (f .state) o) p′ → StepStands c f p stored total joinings q (grows p p′) (afterGrowth (f .state) o)
     started-step {q} {p′} e a n = rw (ap turn (e .answered)) record {
       exact = record {
         agrees = node-agrees _ (s .count);
         few = λ x y _. few-rows (f .parts) (s .fits) (f .state) x y;
         renumbers = λ m k i. start a (e .started) (sym (ap rowsIn i));
         links = λ k i. absurd (let z : _≡_ {A = ℕ} 0 1 = cc in omega arith);
+        stored = stored-begun (e .started) a;
         kept = λ n i. absurd (let z : _≡_ {A = ℕ} 0 1 = cc in omega arith);
       };
       stands = record {
@@ -87,6 +131,7 @@ module _ {c : ℕ} {f : Fast} {p : PlainList} {total joinings : ℕ} (s : Stands
         proper = n .proper;
         shows = n .shows;
         count = n .count ∙ ap suc (s .count);
+        stored = stored-begun (e .started) a;
         paid = omega (arith, s .paid, e .pays);
       };
     }
@@ -101,5 +146,5 @@ module _ {c : ℕ} {f : Fast} {p : PlainList} {total joinings : ℕ} (s : Stands
   refused-by r z e = ap (λ (z : Planned). afterGrowth (f .state) (grownBy (f .parts) z)) (sym e)
 
   pub grown-refused : (q : Call) {o : PlainOutcome} (r : Refusal) (z : Planned) → o ≡ refusalOf (numberOf r) p → Refuse r ≡ z
-      → StepStands c f total joinings q o (afterGrowth (f .state) (grownBy (f .parts) z))
+      → StepStands c f p stored total joinings q o (afterGrowth (f .state) (grownBy (f .parts) z))
   grown-refused q r z e i = steps-by s q (plainRefused (numberOf r)) (refused (numberOf r)) e (refused-by r z i) (still-refused s q (numberOf r))

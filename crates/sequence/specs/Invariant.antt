@@ -1,9 +1,11 @@
--- What stands between two calls: the table passes inspection, its plain tree is the plain list's, and the rows renumbered so far are paid for.
+-- What stands between two calls: the table passes inspection, its plain trees are the plain list's, its stored trees the stored list's, and the rows
+-- renumbered so far are paid for.
 use mathlib.Core.Path.{_≡_, refl, _∙_}
+use mathlib.Core.List.{[]}
 use Prim.Native.Nat.{ℕ}
 use Rattle.rows.specs.Row.{Parts}
 use Rattle.rows.specs.Capacity.{Fits}
-use Rattle.rows.specs.Table.{label}
+use Rattle.rows.specs.Table.{label, parent}
 use Rattle.rows.specs.PlainTree.{plain}
 use Rattle.rows.specs.Rules.{Rules}
 use Rattle.rows.specs.CapacityLaws.{fits-told}
@@ -15,15 +17,18 @@ use Rattle.set_up.specs.BlankLaws.{empty-rules}
 use Rattle.plain_list.specs.PlainList.{PlainList, emptyList, countOf}
 use Rattle.plain_list.specs.Proper.{Proper, proper-empty}
 use Rattle.plain_list.specs.Shows.{Shows, shows-empty}
+use Rattle.plain_list.specs.StoredList.{StoredList}
+use Rattle.plain_list.specs.StoredListLaws.{Stores, stores-empty}
 use Rattle.sequence.specs.Run.{Fast, tableIn, start}
 
--- f, at capacity c, stands beside the plain list p after calls that renumbered so many rows in total, in so many joinings
-pub record Stands (c : ℕ) (f : Fast) (p : PlainList) (total joinings : ℕ) : Type 0 where
+-- f, at capacity c, stands beside the plain list p and the stored list l after calls that renumbered so many rows in total, in so many joinings
+pub record Stands (c : ℕ) (f : Fast) (p : PlainList) (l : StoredList) (total joinings : ℕ) : Type 0 where
   pub fits : Fits c (f .parts)
   pub rules : Rules c (tableIn f)
   pub proper : Proper c p
   pub shows : Shows (plain (tableIn f)) (label (tableIn f)) p
   pub count : countOf p ≡ f .state .count
+  pub stored : Stores (parent (tableIn f)) (f .state .count) l
   pub paid : Paid (tableIn f) total joinings
 
 -- At the start
@@ -43,12 +48,13 @@ pub start-fits : (c : ℕ) (parts : Parts) → Fits c parts → Fits c (partsAft
 unfolding partsAfter
 start-fits c parts f = rw (fits-told f) (blank-fits c parts f)
 
-pub start-stands : (c : ℕ) (parts : Parts) → Fits c parts → Stands c (start parts) emptyList 0 0
+pub start-stands : (c : ℕ) (parts : Parts) → Fits c parts → Stands c (start parts) emptyList [] 0 0
 start-stands c parts f = record {
   fits = start-fits c parts f;
   rules = empty-rules c (tableIn (start parts)) refl;
   proper = proper-empty;
   shows = shows-empty (plain (tableIn (start parts))) (label (tableIn (start parts)));
   count = refl;
+  stored = stores-empty (parent (tableIn (start parts)));
   paid = total-empty (tableIn (start parts)) refl;
 }

@@ -10,35 +10,40 @@ use lib.Dec.{eqb}
 use lib.ListN.{length}
 use Rattle.laws.specs.Test.{says-true, says-false, says-eqb, says-eq, bit}
 use Rattle.laws.specs.Sum.{sum-eq, countTo}
+use Rattle.laws.specs.Tabulate.{tabulate}
 use Rattle.tree_laws.specs.Ancestor.{none}
 use Rattle.rows.specs.declared.refusal.Refusal.{Refusal}
 use Rattle.rows.specs.declared.refusal.Refusal.the-variants.{UnknownNode, Misfit, BadLabel, NotRoot, SameTree}
 use Rattle.rows.specs.Refusal.{numberOf}
+use Rattle.rows.specs.Table.{tableOf, parent}
 use Rattle.rows.specs.PlainTree.{first}
 use Rattle.rows.specs.StoredTree.{labelLimit}
 use Rattle.growth.specs.Plan.{isLabel}
-use Rattle.link_laws.specs.Link.{Linkable}
+use Rattle.link_laws.specs.Link.{Linkable, target}
+use Rattle.link_laws.specs.LinkLaws.{link-stored}
 use Rattle.link_laws.specs.Order.{isOfTree, treeRows}
 use Rattle.link.specs.declared.Linked.{Linked}
 use Rattle.link.specs.declared.Linked.the-variants.{Refused}
 use Rattle.link.specs.Link.{Outcome, outcome, linkBy}
 use Rattle.link_exact.specs.LinkServed.{LinkedExactly, link-misfit, link-unknown-x, link-unknown-v, link-label, link-not-root, link-same-tree, link-served}
 use Rattle.plain_list.specs.PlainList.{PlainList, countOf, parentOf, withLink}
-use Rattle.plain_list.specs.PlainListLaws.{link-count}
+use Rattle.plain_list.specs.PlainListLaws.{link-count, link-parent-root, link-parent-other}
 use Rattle.plain_list.specs.PlainStep.{refused as plainRefused, linked as plainLinked, link as plainLink, refusalOf, rootIn, treeCount, plainOutcome}
 use Rattle.plain_list.specs.PlainStepLaws as plainly
 use Rattle.plain_list.specs.Proper.{root-own, proper-link}
 use Rattle.plain_list.specs.Shows.{shows-link}
+use Rattle.plain_list.specs.StoredList.{StoredList, relinked}
+use Rattle.plain_list.specs.StoredListLaws.{Stores, stores-link}
 use Rattle.sequence.specs.Calls.{link, refused}
 use Rattle.sequence.specs.Run.{Fast, tableIn, Turn, linkReply, afterLink, rowsIn, step}
 use Rattle.sequence.specs.Agrees.{links}
 use Rattle.sequence.specs.Invariant.{Stands}
 use Rattle.sequence.specs.StepExact.{joinings, StepStands, few-rows}
-use Rattle.sequence.specs.Trees.{in-use, tree-roots, roots-tree, root-top, top-root}
+use Rattle.sequence.specs.Trees.{in-use, known, tree-roots, roots-tree, root-top, top-root}
 use Rattle.sequence.specs.AskedSteps.{steps-by, still-refused}
 use Rattle.sequence.specs.Growths.{says-label}
 
-module _ {c : ℕ} {f : Fast} {p : PlainList} {total joined : ℕ} (s : Stands c f p total joined) (x v door : ℕ) where
+module _ {c : ℕ} {f : Fast} {p : PlainList} {stored : StoredList} {total joined : ℕ} (s : Stands c f p stored total joined) (x v door : ℕ) where
   -- The tree of a root x
 
   module _ (h : x < countOf p) (top : parentOf p x ≡ none) where
@@ -74,7 +79,7 @@ module _ {c : ℕ} {f : Fast} {p : PlainList} {total joined : ℕ} (s : Stands c
     turn o y = record { reply = linkReply y; after = record { parts = o .parts; state = f .state } }
 
     linked-step : {o : Outcome} → x < countOf p → v < countOf p → parentOf p x ≡ none → rootIn p v ≢ x → LinkedExactly c (f .parts) (f .state) x v door o
-        → StepStands c f total joined (link x v door scratch) (record { reply = plainLinked; after = withLink p x v door; joined = treeCount p x })
+        → StepStands c f p stored total joined (link x v door scratch) (record { reply = plainLinked; after = withLink p x v door; joined = treeCount p x })
         (afterLink (f .state) o)
     linked-step {o} h i top d e = rw (ap (turn o) (e .answered)) record {
       exact = record {
@@ -82,6 +87,7 @@ module _ {c : ℕ} {f : Fast} {p : PlainList} {total joined : ℕ} (s : Stands c
         few = λ x y _. few-rows (f .parts) (s .fits) (f .state) x y;
         renumbers = λ n k i. absurd (let z : _≡_ {A = ℕ} 0 1 = cc in omega arith);
         links = λ k i. joinings (rw (ap rowsIn i) at (e .linked));
+        stored = after;
         kept = λ n i. absurd (let z : _≡_ {A = ℕ} 0 1 = cc in omega arith);
       };
       stands = record {
@@ -94,12 +100,27 @@ module _ {c : ℕ} {f : Fast} {p : PlainList} {total joined : ℕ} (s : Stands c
             (λ w l n. e .plain .parents w (in-use s l) n)
             (λ w l n. e .plain .labels w (in-use s l) n);
         count = link-count p x v door ∙ s .count;
+        stored = after;
         paid = omega (arith, s .paid, e .pays, tree-count h top);
       };
     }
+      where
+        target-is : (w : ℕ) → w < countOf p → target (tableIn f) x v w ≡ parentOf (withLink p x v door) w
+        target-is w l = elim (ℕ-discrete w x) [
+          | yes z ↦ rw (says-true (says-eqb w x) z, z) (sym (link-parent-root p x v door h))
+          | no n ↦ rw (says-false (says-eqb w x) n) (s .shows .parents w l ∙ sym (link-parent-other p x v door w n))
+        ]
+
+        -- the linked rows stand under their plain parents, the others where they stood
+        after : Stores (parent (tableOf (o .parts) (f .state .count))) (f .state .count) (tabulate (relinked p stored x v door) (length stored))
+        after =
+            let q = link-stored (s .rules) (s .fits .most) (e .linked) in
+            stores-link (s .stored) p x v door
+            (λ w l i. q .moved w l (own-tree h top (known s l) i) ∙ target-is w (known s l))
+            (λ w l n. q .rest w l (λ i. n (tree-own h top (known s l) i)))
 
     link-served-step : length scratch ≡ c → x < countOf p → v < countOf p → 1 ≤ door → door ≤ labelLimit → parentOf p x ≡ none → rootIn p v ≢ x
-        → StepStands c f total joined (link x v door scratch) (plainOutcome c p (plainLink x v door (length scratch))) (step f (link x v door scratch))
+        → StepStands c f p stored total joined (link x v door scratch) (plainOutcome c p (plainLink x v door (length scratch))) (step f (link x v door scratch))
     unfolding step
     link-served-step e h i j k top d =
         rw (plainly.link-served c p x v door (length scratch) e h i j k top d)
@@ -109,14 +130,14 @@ module _ {c : ℕ} {f : Fast} {p : PlainList} {total joined : ℕ} (s : Stands c
 
     link-refused : (r : Refusal) → plainOutcome c p (plainLink x v door (length scratch)) ≡ refusalOf (numberOf r) p
         → linkBy (f .parts) (length scratch) (f .state) x v door ≡ outcome (f .parts) (Refused r)
-        → StepStands c f total joined (link x v door scratch) (plainOutcome c p (plainLink x v door (length scratch))) (step f (link x v door scratch))
+        → StepStands c f p stored total joined (link x v door scratch) (plainOutcome c p (plainLink x v door (length scratch))) (step f (link x v door scratch))
     unfolding step
     link-refused r e i = steps-by s (link x v door scratch) (plainRefused (numberOf r)) (refused (numberOf r)) e
         (ap (afterLink (f .state)) i) (still-refused s (link x v door scratch) (numberOf r))
 
     -- a link of known nodes
     link-known : length scratch ≡ c → x < countOf p → v < countOf p
-        → StepStands c f total joined (link x v door scratch) (plainOutcome c p (plainLink x v door (length scratch))) (step f (link x v door scratch))
+        → StepStands c f p stored total joined (link x v door scratch) (plainOutcome c p (plainLink x v door (length scratch))) (step f (link x v door scratch))
     link-known e h i = elim (decLt door 1) [
       | yes d ↦ unlabelled (λ z. omega (arith, z .0))
       | no l ↦ elim (decLt labelLimit door) [
@@ -139,11 +160,11 @@ module _ {c : ℕ} {f : Fast} {p : PlainList} {total joined : ℕ} (s : Stands c
         labelled a b = says-true (says-label door) (a, b)
 
         unlabelled : ¬ ((1 ≤ door) × (door ≤ labelLimit))
-            → StepStands c f total joined (link x v door scratch) (plainOutcome c p (plainLink x v door (length scratch))) (step f (link x v door scratch))
+            → StepStands c f p stored total joined (link x v door scratch) (plainOutcome c p (plainLink x v door (length scratch))) (step f (link x v door scratch))
         unlabelled d = link-refused BadLabel (plainly.link-no-label c p x v door (length scratch) e h i d)
             (link-label (f .parts) (length scratch) (f .state) x v door (s .fits) e (in-use s h) (in-use s i) (says-false (says-label door) d))
 
-    pub link-step : StepStands c f total joined (link x v door scratch) (plainOutcome c p (plainLink x v door (length scratch)))
+    pub link-step : StepStands c f p stored total joined (link x v door scratch) (plainOutcome c p (plainLink x v door (length scratch)))
         (step f (link x v door scratch))
     link-step = elim (ℕ-discrete (length scratch) c) [
       | no d ↦ link-refused Misfit (plainly.link-misfit c p x v door (length scratch) d) (link-misfit (f .parts) (length scratch) (f .state) x v door (s .fits) d)

@@ -7,7 +7,7 @@ use native.Mathlib.Omega.{arith}
 use Rattle.rows.specs.Row.{Parts}
 use Rattle.rows.specs.Capacity.{Fits}
 use Rattle.rows.specs.Rules.{Rules}
-use Rattle.rows.specs.Table.{label}
+use Rattle.rows.specs.Table.{label, parent}
 use Rattle.rows.specs.PlainTree.{plain}
 use Rattle.set_up.specs.declared.Made.the-variants.{Empty}
 use Rattle.set_up.specs.Blank.{setUp}
@@ -15,6 +15,8 @@ use Rattle.set_up.specs.BlankLaws.{set-up-served}
 use Rattle.plain_list.specs.PlainList.{PlainList, emptyList, countOf}
 use Rattle.plain_list.specs.PlainStep.{plainOutcome, plainAfter, plainRun}
 use Rattle.plain_list.specs.Shows.{Shows}
+use Rattle.plain_list.specs.StoredList.{StoredList, storedAfter, storedRun}
+use Rattle.plain_list.specs.StoredListLaws.{Stores}
 use Rattle.plain_list.specs.Joinings.{Unlinked, joinings-count}
 use Rattle.sequence.specs.Calls.{Call, first, leaf, root, rootOver, link, question, alike, inspection, told, toldAll}
 use Rattle.sequence.specs.Run.{Fast, tableIn, start, step, run, totalIn}
@@ -26,10 +28,11 @@ use Rattle.sequence.specs.GrowthSteps.{first-step, leaf-step, root-step,
 use Rattle.sequence.specs.LinkSteps.{link-step}
 
 -- each call of the list, on what the calls before it left, is exact
-pub data EachExact (c : ℕ) : Fast → PlainList → List Call → Type 0 where
-  done : {f : Fast} {p : PlainList} → EachExact c f p []
-  then : {f : Fast} {p : PlainList} {q : Call} {qs : List Call} → StepExact c f q (plainOutcome c p (told q)) (step f q)
-      → EachExact c (step f q .after) (plainAfter c p (told q)) qs → EachExact c f p (q ∷ qs)
+pub data EachExact (c : ℕ) : Fast → PlainList → StoredList → List Call → Type 0 where
+  done : {f : Fast} {p : PlainList} {l : StoredList} → EachExact c f p l []
+  then : {f : Fast} {p : PlainList} {l : StoredList} {q : Call} {qs : List Call}
+      → StepExact c f (storedAfter c p l (told q)) q (plainOutcome c p (told q)) (step f q)
+      → EachExact c (step f q .after) (plainAfter c p (told q)) (storedAfter c p l (told q)) qs → EachExact c f p l (q ∷ qs)
 
 -- over all calls, at most so many rows are renumbered for each joining
 abbrev pub rowsPerJoining : ℕ
@@ -43,18 +46,21 @@ pub record SequenceExact (c : ℕ) (parts : Parts) (calls : List Call) : Type 0 
   pub replies : AllAgree (plainRun c emptyList (toldAll calls) .replies) (run (start parts) calls .replies)
   -- each question draws on few rows, each served growth answers the rows at or below its head in the stored tree, each served link
   -- those of its joinings, and a refusal changes nothing
-  pub each : EachExact c (start parts) emptyList calls
+  pub each : EachExact c (start parts) emptyList [] calls
   -- the rows renumbered by all calls together
   pub total : totalIn (run (start parts) calls .replies) ≤ rowsPerJoining * plainRun c emptyList (toldAll calls) .joinings
-  -- at the end the table passes inspection, and its count, plain trees and labels are the plain list's
+  -- at the end the parts fit, the table passes inspection, its count, plain trees and labels are the plain list's, its stored trees the stored list's
+  pub fits : Fits c (run (start parts) calls .last .parts)
   pub rules : Rules c (tableIn (run (start parts) calls .last))
   pub count : countOf (plainRun c emptyList (toldAll calls) .last) ≡ run (start parts) calls .last .state .count
   pub shows : Shows (plain (tableIn (run (start parts) calls .last))) (label (tableIn (run (start parts) calls .last))) (plainRun c emptyList (toldAll calls) .last)
+  pub stored : Stores (parent (tableIn (run (start parts) calls .last))) (run (start parts) calls .last .state .count)
+      (storedRun c emptyList [] (toldAll calls))
 
 -- One call
 
-module _ {c : ℕ} {f : Fast} {p : PlainList} {total joinings : ℕ} (s : Stands c f p total joinings) where
-  pub step-exact : (q : Call) → StepStands c f total joinings q (plainOutcome c p (told q)) (step f q)
+module _ {c : ℕ} {f : Fast} {p : PlainList} {l : StoredList} {total joinings : ℕ} (s : Stands c f p l total joinings) where
+  pub step-exact : (q : Call) → StepStands c f p l total joinings q (plainOutcome c p (told q)) (step f q)
   step-exact (first scratch) = first-step s scratch
   step-exact (leaf v l scratch) = leaf-step s v l scratch
   step-exact (root scratch) = root-step s scratch
@@ -64,21 +70,22 @@ module _ {c : ℕ} {f : Fast} {p : PlainList} {total joinings : ℕ} (s : Stands
   step-exact (alike x y) = alike-step s x y
   step-exact (inspection scratch) = inspection-step s scratch
 
--- From wherever the table stands beside the plain list
+-- From wherever the table stands beside the lists
 
-record RunExact (c : ℕ) (f : Fast) (p : PlainList) (total joinings : ℕ) (calls : List Call) : Type 0 where
+record RunExact (c : ℕ) (f : Fast) (p : PlainList) (l : StoredList) (total joinings : ℕ) (calls : List Call) : Type 0 where
   replies : AllAgree (plainRun c p (toldAll calls) .replies) (run f calls .replies)
-  each : EachExact c f p calls
-  stands : Stands c (run f calls .last) (plainRun c p (toldAll calls) .last) (total + totalIn (run f calls .replies))
+  each : EachExact c f p l calls
+  stands : Stands c (run f calls .last) (plainRun c p (toldAll calls) .last) (storedRun c p l (toldAll calls)) (total + totalIn (run f calls .replies))
       (joinings + plainRun c p (toldAll calls) .joinings)
 
-stands-at : {c : ℕ} {f : Fast} {p : PlainList} {m n i j : ℕ} → m ≡ n → i ≡ j → Stands c f p m i → Stands c f p n j
+stands-at : {c : ℕ} {f : Fast} {p : PlainList} {l : StoredList} {m n i j : ℕ} → m ≡ n → i ≡ j → Stands c f p l m i → Stands c f p l n j
 stands-at e d s = rw (← e, ← d) s
 
-run-exact : {c : ℕ} {f : Fast} {p : PlainList} {total joinings : ℕ} → Stands c f p total joinings → (calls : List Call) → RunExact c f p total joinings calls
-unfolding plainRun run toldAll totalIn
+run-exact : {c : ℕ} {f : Fast} {p : PlainList} {l : StoredList} {total joinings : ℕ} → Stands c f p l total joinings → (calls : List Call)
+    → RunExact c f p l total joinings calls
+unfolding plainRun storedRun run toldAll totalIn
 run-exact s [] = record { replies = end; each = done; stands = stands-at (omega arith) (omega arith) s }
-run-exact {c} {f} {p} s (q ∷ qs) =
+run-exact {c} {f} {p} {l} s (q ∷ qs) =
     let one = step-exact s q in
     let rest = run-exact (one .stands) qs in
     record {
@@ -98,9 +105,11 @@ sequence-exact c parts f calls =
       replies = r .replies;
       each = r .each;
       total = omega (arith, s .paid);
+      fits = s .fits;
       rules = s .rules;
       count = s .count;
       shows = s .shows;
+      stored = s .stored;
     }
 
 -- What follows from it

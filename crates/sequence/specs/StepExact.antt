@@ -5,7 +5,7 @@ use mathlib.Core.List.{List}
 use Prim.Native.Nat.{ℕ, _+_}
 use native.Mathlib.Omega.{arith}
 use Rattle.rows.specs.Row.{Parts}
-use Rattle.rows.specs.Table.{Table}
+use Rattle.rows.specs.Table.{Table, parent}
 use Rattle.rows.specs.PlainTree.{root as rootOf}
 use Rattle.rows.specs.Capacity.{Fits}
 use Rattle.rows.specs.declared.state.State.{State}
@@ -13,13 +13,14 @@ use Rattle.query.specs.FewRows.{DrawsOn}
 use Rattle.query.specs.FewRowsLaws.{question-few-rows}
 use Rattle.growth_laws.specs.Growth.{Growth, leaf as newLeaf, root as newRoot}
 use Rattle.growth_laws.specs.Grown.{Grown, Started}
-use Rattle.growth_laws.specs.Renumbered.{rows}
 use Rattle.link_laws.specs.Link.{Linked}
 use Rattle.plain_list.specs.PlainList.{PlainList}
-use Rattle.plain_list.specs.PlainStep.{PlainReply, PlainOutcome, replies as plainReplies}
-use Rattle.sequence.specs.Calls.{Call, first, leaf, root, rootOver, link, question, Reply, refused, grown, linked}
+use Rattle.plain_list.specs.PlainStep.{PlainCall, PlainReply, PlainOutcome, replies as plainReplies}
+use Rattle.plain_list.specs.StoredList.{StoredList, storedBelow, storedBy}
+use Rattle.plain_list.specs.StoredListLaws.{Stores}
+use Rattle.sequence.specs.Calls.{Call, first, leaf, root, rootOver, link, question, Reply, refused, grown, linked, told}
 use Rattle.sequence.specs.Run.{Fast, tableIn, Turn, replies, rowsIn}
-use Rattle.sequence.specs.Agrees.{Agrees}
+use Rattle.sequence.specs.Agrees.{Agrees, refusals, nodes, links, answers, alikes, pass}
 use Rattle.sequence.specs.Invariant.{Stands}
 
 -- the growth of table t that a call asks for; 01's new root goes over that of the tree of node 0
@@ -33,52 +34,77 @@ pub data Begins (t : Table) : Call → Type 0 where
   begins-first : {s : List ℕ} → Begins t (first s)
   begins-root : {s : List ℕ} → t .count ≡ 0 → Begins t (root s)
 
--- by call q table t became table d, and k is how many rows were renumbered
-pub data Renumbers (t d : Table) (k : ℕ) : Call → Type 0 where
+-- by call q table t became table d, and k is how many rows were renumbered; l is the stored list after the call
+pub data Renumbers (l : StoredList) (t d : Table) (k : ℕ) : Call → Type 0 where
   -- by a growth: its head, and all rows below it in the stored tree
-  growth : {q : Call} {g : Growth} (head : ℕ) → Asks t q g → Grown t d g head → k ≡ rows d head → Renumbers t d k q
+  growth : {q : Call} {g : Growth} (head : ℕ) → Asks t q g → Grown t d g head → k ≡ storedBelow l head → Renumbers l t d k q
   -- by a first node: its own row
-  start : {q : Call} → Begins t q → Started t d → k ≡ 1 → Renumbers t d k q
+  start : {q : Call} → Begins t q → Started t d → k ≡ 1 → Renumbers l t d k q
   -- by a link: those of all its joinings, added up
-  joinings : {x v door : ℕ} {s : List ℕ} → Linked t d x v door k → Renumbers t d k (link x v door s)
+  joinings : {x v door : ℕ} {s : List ℕ} → Linked t d x v door k → Renumbers l t d k (link x v door s)
 
 -- a question draws on at most so many rows
 abbrev pub mostRows : ℕ
 mostRows = 64
 
--- the turn u of call q on f is the plain list's outcome o on p
-pub record StepExact (c : ℕ) (f : Fast) (q : Call) (o : PlainOutcome) (u : Turn) : Type 0 where
+-- the turn u of call q on f is the plain list's outcome o, and l is the stored list after it
+pub record StepExact (c : ℕ) (f : Fast) (l : StoredList) (q : Call) (o : PlainOutcome) (u : Turn) : Type 0 where
   -- the plain list gives the same outcome
   pub agrees : Agrees (o .reply) (u .reply)
   -- a question draws on few rows
   pub few : (x y : ℕ) → q ≡ question x y → DrawsOn mostRows c (f .parts) (f .state) x y
   -- a served growth renumbers its head and all rows below it in the stored tree, a first node itself, and it answers how many these are
-  pub renumbers : (n k : ℕ) → u .reply ≡ grown n k → Renumbers (tableIn f) (tableIn (u .after)) k q
+  pub renumbers : (n k : ℕ) → u .reply ≡ grown n k → Renumbers l (tableIn f) (tableIn (u .after)) k q
   -- and so does a served link
-  pub links : (k : ℕ) → u .reply ≡ linked k → Renumbers (tableIn f) (tableIn (u .after)) k q
+  pub links : (k : ℕ) → u .reply ≡ linked k → Renumbers l (tableIn f) (tableIn (u .after)) k q
+  -- the stored parents of the table are then the stored list's
+  pub stored : Stores (parent (tableIn (u .after))) (u .after .state .count) l
   -- a refusal leaves parts and count as they went in
   pub kept : (n : ℕ) → u .reply ≡ refused n → u .after ≡ f
 
--- the same, and the tables stand beside the plain list again
-pub record StepStands (c : ℕ) (f : Fast) (total joinings : ℕ) (q : Call) (o : PlainOutcome) (u : Turn) : Type 0 where
-  pub exact : StepExact c f q o u
-  pub stands : Stands c (u .after) (o .after) (total + rowsIn (u .reply)) (joinings + o .joined)
+-- the same, and the table stands beside the lists again, which were p and l before
+pub record StepStands (c : ℕ) (f : Fast) (p : PlainList) (l : StoredList) (total joinings : ℕ) (q : Call) (o : PlainOutcome) (u : Turn) : Type 0 where
+  pub exact : StepExact c f (storedBy p l (told q) (o .reply)) q o u
+  pub stands : Stands c (u .after) (o .after) (storedBy p l (told q) (o .reply)) (total + rowsIn (u .reply)) (joinings + o .joined)
 
 -- Laws
 
 pub few-rows : {c : ℕ} (a : Parts) → Fits c a → (s : State) (x y : ℕ) → DrawsOn mostRows c a s x y
 few-rows a f s x y = let d = question-few-rows a f s x y in record { rows = d .rows; few = omega (arith, d .few); decide = d .decide }
 
+-- a reply that tells of no node and of no link leaves the stored list as it is
+kept-stored : {r : PlainReply} {u : Reply} (p : PlainList) (l : StoredList) (q : PlainCall) → Agrees r u → ((n k : ℕ) → u ≢ grown n k)
+    → ((k : ℕ) → u ≢ linked k) → l ≡ storedBy p l q r
+kept-stored p l q (refusals n) d i = refl
+kept-stored p l q (nodes n k) d i = absurd (d n k refl)
+kept-stored p l q (links k) d i = absurd (i k refl)
+kept-stored p l q (answers r) d i = refl
+kept-stored p l q (alikes b) d i = refl
+kept-stored p l q pass d i = refl
+
 -- a call that changes nothing and renumbers nothing
-pub still : {c : ℕ} {f : Fast} {p : PlainList} {total joinings : ℕ} → Stands c f p total joinings → (q : Call) {r : PlainReply} {u : Reply} → Agrees r u
-    → rowsIn u ≡ 0 → ((n k : ℕ) → u ≢ grown n k) → ((k : ℕ) → u ≢ linked k) → StepStands c f total joinings q (plainReplies r p) (replies f u)
-still {c} {f} {p} {total} {joinings} s q {r} {u} a z d i = record {
+pub still : {c : ℕ} {f : Fast} {p : PlainList} {l : StoredList} {total joinings : ℕ} → Stands c f p l total joinings → (q : Call) {r : PlainReply} {u : Reply}
+    → Agrees r u → rowsIn u ≡ 0 → ((n k : ℕ) → u ≢ grown n k) → ((k : ℕ) → u ≢ linked k)
+    → StepStands c f p l total joinings q (plainReplies r p) (replies f u)
+still {c} {f} {p} {l} {total} {joinings} s q {r} {u} a z d i = record {
   exact = record {
     agrees = a;
     few = λ x y _. few-rows (f .parts) (s .fits) (f .state) x y;
     renumbers = λ n k e. absurd (d n k e);
     links = λ k e. absurd (i k e);
+    stored = same;
     kept = λ n e. refl;
   };
-  stands = record { fits = s .fits; rules = s .rules; proper = s .proper; shows = s .shows; count = s .count; paid = omega (arith, s .paid) };
+  stands = record {
+    fits = s .fits;
+    rules = s .rules;
+    proper = s .proper;
+    shows = s .shows;
+    count = s .count;
+    stored = same;
+    paid = omega (arith, s .paid);
+  };
 }
+  where
+    same : Stores (parent (tableIn f)) (f .state .count) (storedBy p l (told q) r)
+    same = rw (kept-stored p l (told q) a d i) at (s .stored)

@@ -13,10 +13,11 @@ use Rattle.plain_list.specs.PlainList.{PlainList, countOf, parentOf}
 use Rattle.plain_list.specs.PlainStep.{rootIn}
 use Rattle.plain_list.specs.Proper.{root-own}
 use Rattle.plain_list.specs.Shows.{roots-kindred, kindred-roots}
+use Rattle.plain_list.specs.StoredList.{StoredList}
 use Rattle.sequence.specs.Run.{Fast, tableIn}
 use Rattle.sequence.specs.Invariant.{Stands}
 
-module _ {c : ℕ} {f : Fast} {p : PlainList} {total joinings : ℕ} (s : Stands c f p total joinings) where
+module _ {c : ℕ} {f : Fast} {p : PlainList} {stored : StoredList} {total joinings : ℕ} (s : Stands c f p stored total joinings) where
   -- a node of the list is a row in use, and the other way round
   pub in-use : {x : ℕ} → x < countOf p → x < f .state .count
   in-use l = omega (arith, s .count)
