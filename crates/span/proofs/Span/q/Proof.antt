@@ -1,0 +1,23 @@
+-- `q` lies four parts after the start.
+use borrow.Author.Needs.{needs}
+use native.Mathlib.Omega.{arith}
+use Rattle.span.proofs.Span.q.Statement.{statement}
+use Rattle.span.proofs.Span.q.Tie as tie
+
+sub-result : tie.Need-sub-result
+sub-result c = search needs
+
+part-requires : tie.Need-part-requires
+part-requires c κs = search needs
+
+mul-result : tie.Need-mul-result
+mul-result c = omega (arith, c .part .ensures, c .before .pre)
+
+add-result : tie.Need-add-result
+add-result c = omega (arith, c .before .part .ensures, c .before .before .pre)
+
+returns : tie.Need-returns
+returns c = rw (c .before .part .ensures)
+
+pub q-spec : {M : Type 1} → statement M
+q-spec = tie.close (tie.spec sub-result part-requires mul-result add-result returns)
