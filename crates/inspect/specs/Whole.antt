@@ -1,24 +1,29 @@
 -- Inspection as a call answers it (01, "Inspection"; refusal 3): the definition, and how the answers of the six rules make it up.
-use mathlib.Core.Path.{_≡_, refl}
+use mathlib.Core.Path.{_≡_, refl, sym}
 use mathlib.Core.Bool.{Bool, true, false, _&&_}
 use mathlib.Core.List.{List}
 use Prim.Native.Nat.{ℕ, _≤_}
 use native.Mathlib.Omega.{arith}
 use lib.IntN.{ℤ}
-use Rattle.laws.specs.Test.{says-get}
+use Rattle.laws.specs.Test.{says-false, says-get, says-not-get, allTo}
 use Rattle.rows.specs.Row.{partsOf}
 use Rattle.rows.specs.Table.{tableOf}
 use Rattle.rows.specs.State.{isStanding}
 use Rattle.rows.specs.StateLaws.{says-standing}
+use Rattle.rows.specs.Rules.{numbered}
+use Rattle.numbering.specs.Bounds.{end-small}
 use Rattle.inspect_laws.specs.Recorded.{stateOf, areParents, areRoots, areLevels, areLinks, isRecorded}
 use Rattle.inspect_laws.specs.Compressed.{isCompressed}
 use Rattle.inspect_laws.specs.SetSizes.{areSetSizes, areSmallChildren, says-setSizes}
 use Rattle.inspect_laws.specs.Nested.{areNested}
 use Rattle.inspect_laws.specs.Entries.{areEntries}
+use Rattle.inspect_laws.specs.CompressedLaws.{upper-forest, says-compressed}
 use Rattle.inspect_laws.specs.Inspects.{inspects}
+use Rattle.inspect_laws.specs.Exact.{inspect-exact}
 use Rattle.inspect_tree.specs.Columns.{fieldTable, levelTable, spanTable, entryTable}
 use Rattle.inspect_spans.specs.Grouped.{Positive}
-use Rattle.inspect_tree.specs.RecordedBy.{Stored}
+use Rattle.inspect_spans.specs.Small.{isSmall, Small, says-small, small-of}
+use Rattle.inspect_tree.specs.RecordedBy.{Stored, stored-forest}
 
 -- what rule 1 tells the passes that follow
 pub record Known (f : List ℕ) (n capacity : ℕ) : Type 0 where
@@ -46,8 +51,21 @@ recorded-known f l n capacity small e =
 pub set-positive : (f : List ℕ) (n : ℕ) → areSetSizes (fieldTable f n) ≡ true → Positive f n
 set-positive f n e = record { each = λ x l. says-get (says-setSizes (fieldTable f n)) e x l .positive }
 
+-- where rules 1 and 2 hold and every span ends within the limit, so does that of each compressed parent
+pub small-known : (f m : List ℕ) (n : ℕ) → Stored f n → isCompressed (fieldTable f n) ≡ true → allTo (isSmall (spanTable f m 0)) n ≡ true → Small f m n
+small-known f m n s two e =
+    let tree = stored-forest s in
+    let uppers = upper-forest (fieldTable f n) tree (says-get (says-compressed (fieldTable f n) tree) two .upper) in
+    small-of f m n e (uppers .inside)
+
 -- the answer of the first rule that fails, or of the last
 module _ (f m : List ℕ) (l : List ℤ) (a : List ℕ) (n capacity : ℕ) where
+  -- in a table that passes every span ends within the limit
+  pub stop-small : capacity ≤ 32768 → allTo (isSmall (spanTable f m 0)) n ≡ false → false ≡ inspects capacity (tableOf (partsOf f m l a) n)
+  stop-small small e = sym (says-false
+      (inspect-exact capacity (tableOf (partsOf f m l a) n) small)
+      (λ r. says-not-get (says-small (spanTable f m 0) n) e (end-small (numbered r small))))
+
   pub stop-one : isRecorded capacity (levelTable f l n) ≡ false → false ≡ inspects capacity (tableOf (partsOf f m l a) n)
   unfolding inspects isRecorded
   stop-one e = rw e
