@@ -1,52 +1,18 @@
--- The order of starts down a whole path, and by the links of the renumbered table alone: renumbering leaves stored tree and child links as they are.
-use mathlib.Core.Path.{_≡_, refl, ap, sym, _∙_}
+-- The order of starts holds by the links of the renumbered table alone: renumbering leaves the stored tree and the child links as they are.
+use mathlib.Core.Path.{_≡_, refl, sym, _∙_}
 use mathlib.Core.Logic.{inl, inr, _≢_}
 use mathlib.Core.List.{List}
-use Prim.Native.Nat.{ℕ, _≤_, _<_}
+use Prim.Native.Nat.{ℕ, _<_}
 use native.Mathlib.Omega.{arith}
 use Rattle.tree_laws.specs.Ancestor.{none, Anc, here, there, Forest}
-use Rattle.tree_laws.specs.AncestorLaws.{trans, parent-over, row-some, anc-in, anc-copy}
+use Rattle.tree_laws.specs.AncestorLaws.{anc-in, anc-copy}
 use Rattle.tree_laws.specs.ChildLinks.{Chain, end, link, Member}
-use Rattle.tree_laws.specs.Compressed.{PathChild, PathLinks}
-use Rattle.rows.specs.Table.{Table, parent, depth, path, start}
+use Rattle.tree_laws.specs.Compressed.{PathChild}
+use Rattle.rows.specs.Table.{Table, parent, depth, path}
 use Rattle.rows.specs.Rules.{Numbered}
 use Rattle.growth_laws.specs.Renumbered.{Renumbered}
 use Rattle.growth_laws.specs.StartOrder.{LightChild, ArrivedAfter, StartOrder}
 use Rattle.growth_laws.specs.Trees.{own-trees, stored}
-
--- Down the path
-
--- row x belongs to the path row v: it is v itself, unless v is the apex, or a light child of v
-pub data BelongsTo (m d : Table) (v : ℕ) : ℕ → Type 0 where
-  itself : PathChild (parent m) (path d) v → BelongsTo m d v v
-  light : {w : ℕ} → LightChild m d v w → BelongsTo m d v w
-
-module _ {m d : Table} {rank : ℕ → ℕ} {h : ℕ} (t : Forest (parent m) rank (m .count)) (g : PathLinks (parent m) (path d) (m .count)) (k : StartOrder m d h) where
-  next-over : {v : ℕ} → v < m .count → path d v ≢ none → parent m (path d v) ≢ none
-  next-over {v} l i = row-some t l (g .over v l i)
-
-  next-child : {v : ℕ} → v < m .count → path d v ≢ none → PathChild (parent m) (path d) (path d v)
-  next-child {v} l i = record { some = next-over l i; link = ap (path d) (g .over v l i) }
-
-  next-below : {v : ℕ} → v < m .count → Anc (parent m) h v → path d v ≢ none → Anc (parent m) h (path d v)
-  next-below {v} l b i = trans b (parent-over (next-over l i) (g .over v l i))
-
-  before-next : {v x : ℕ} → v < m .count → Anc (parent m) h v → path d v ≢ none → BelongsTo m d v x → start d x < start d (path d v)
-  before-next {v} l b i (itself o) = k .rowFirst v (path d v) l b o (g .inside v l i) (g .over v l i)
-  before-next {v} {x} l b i (light p) = k .pathLast v x l b p i
-
-  -- all from the row v on, down its path
-  row-before : {v z y : ℕ} → v < m .count → Anc (parent m) h v → PathChild (parent m) (path d) v → Anc (path d) z v → BelongsTo m d z y → start d v ≤ start d y
-  row-before l b o here (itself p) = omega arith
-  row-before {v} {y = y} l b o here (light p) = omega (arith, k .rowFirst v y l b o (p .inUse) (p .over))
-  row-before {v} l b o (there i a) y =
-      omega (arith, before-next l b i (itself o), row-before (g .inside v l i) (next-below l b i) (next-child l i) a y)
-
-  -- what belongs to a row starts before what belongs to any row further down the path
-  pub down-path : {v z x y : ℕ} → v < m .count → Anc (parent m) h v → Anc (path d) z v → v ≢ z → BelongsTo m d v x → BelongsTo m d z y → start d x < start d y
-  down-path l b here n x y = absurd (n refl)
-  down-path {v} l b (there i a) n x y =
-      omega (arith, before-next l b i x, row-before (g .inside v l i) (next-below l b i) (next-child l i) a y)
 
 -- The next links do not lead out of a chain
 
@@ -61,8 +27,6 @@ chain-next (link d p) (inr z) i = inr (chain-next p z i)
 chain-along : {next : ℕ → ℕ} {c w x : ℕ} {xs : List ℕ} → Chain next c xs → Member xs w → Anc next x w → Member xs x
 chain-along p z here = z
 chain-along p z (there i a) = chain-along p (chain-next p z i) a
-
--- By the table's own links
 
 module _ {m d : Table} {h : ℕ} (n : Numbered d) (k : Renumbered m d h) where
   before : {x : ℕ} → x < d .count → x < m .count
