@@ -33,6 +33,8 @@ use Rattle.growth_laws.specs.GrowthKeepsRules.{growth-plain}
 use Rattle.growth_laws.specs.Lag.{lag, worth, perJoin}
 use Rattle.growth_laws.specs.PlainStep.{PlainStep}
 use Rattle.growth_laws.specs.Renumbered.{rows}
+use Rattle.growth_laws.specs.StartOrder.{StartOrder}
+use Rattle.growth_laws.specs.StartOrderLaws.{order-after}
 use Rattle.growth.specs.declared.Grown.the-variants.{Node}
 use Rattle.growth.specs.declared.plan.Planned.{Planned}
 use Rattle.growth.specs.declared.plan.Planned.the-variants.{Grow}
@@ -58,6 +60,8 @@ pub record GrownExactly (c : ℕ) (p : Parts) (s : State) (g : Growth) (o : Outc
   pub fits : Fits c (o .parts)
   -- row, head and renumbering as 01 has them
   pub grown : Grown (tableOf p (s .count)) (tableGrown s o) g head
+  -- at and below the head the starts come in 01's order
+  pub order : StartOrder (tableGrown s o) (tableGrown s o) head
   -- the table passes inspection again
   pub rules : Rules c (tableGrown s o)
   -- the plain trees are one step of the plain list on
@@ -111,12 +115,14 @@ module _ {c : ℕ} (p : Parts) (s : State) (fit : Fits c p) (r : Rules c (tableO
   left-exactly =
       let k = grown p (s .count) fit r room g named in
       let i = site p (s .count) fit r room g named in
+      let after = grown-rules p (s .count) fit r room g named in
       record {
         head = h;
         answered = count-more (s .count) p fit room (rows d h);
         fits = site-fits i (labelOf g) (treeOf t g);
         grown = k;
-        rules = grown-rules p (s .count) fit r room g named;
+        order = order-after (numbered after (fit .most)) (k .step .renumbered);
+        rules = after;
         plain = growth-plain r (fit .most) room k;
         frame = join-frame (i .was) (site-step i (labelOf g) (treeOf t g));
         headRows = join-head (i .was) (site-step i (labelOf g) (treeOf t g));

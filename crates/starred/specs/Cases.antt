@@ -1,4 +1,4 @@
--- 01's cases marked *, as one table: the calls, and what they must give.
+-- 01's cases marked *, as one table: the calls, and what they must give; two of the cases show the order of starts.
 use mathlib.Core.List.{List, [], _∷_, _++_}
 use Prim.Native.Nat.{ℕ, _*_}
 use lib.IntN.{ℤ, pos, negsuc}
@@ -86,6 +86,10 @@ sevenReplies = threeReplies ++ answered 1 1 2 (pos 0) (pos 1) 7 ∷ refused 1 �
 abbrev pub star : List Call
 star = root scratch ∷ leaf 0 1 scratch ∷ leaf 0 2 scratch ∷ leaf 0 3 scratch ∷ leaf 0 4 scratch ∷ leaf 0 5 scratch ∷ leaf 0 6 scratch ∷ []
 
+-- a root 0 and its child 1, which is heavy by its leaves 2 and 3; then 4, a light child of the root
+abbrev pub lightAfterHeavy : List Call
+lightAfterHeavy = root scratch ∷ leaf 0 1 scratch ∷ leaf 1 2 scratch ∷ leaf 1 3 scratch ∷ leaf 0 4 scratch ∷ []
+
 unfoldable pub cases : List Case
 cases =
     -- the nine lines' seven calls
@@ -100,15 +104,15 @@ cases =
       asked = pOf 0 ∷ qOf 0 ∷ endOf 0 ∷ pOf 1 ∷ pOf 2 ∷ [];
       due = record { replies = threeReplies; total = 6; levels = pos 0 ∷ pos 1 ∷ pos 2 ∷ []; numbers = 81 ∷ 324 ∷ 405 ∷ 82 ∷ 87 ∷ [] };
     }
-    -- a root with five leaves, then a sixth, which renumbers 1 row and starts at 1,321
+    -- a root with five leaves, which start in order of arrival, then a sixth, which renumbers 1 row and starts at 1,321
     ∷ record {
       calls = star;
-      asked = startOf 6 ∷ [];
+      asked = startOf 1 ∷ startOf 2 ∷ startOf 3 ∷ startOf 4 ∷ startOf 5 ∷ startOf 6 ∷ [];
       due = record {
         replies = grown 0 1 ∷ grown 1 2 ∷ grown 2 3 ∷ grown 3 4 ∷ grown 4 5 ∷ grown 5 6 ∷ grown 6 1 ∷ [];
         total = 22;
         levels = pos 0 ∷ pos 1 ∷ pos 1 ∷ pos 1 ∷ pos 1 ∷ pos 1 ∷ pos 1 ∷ [];
-        numbers = 1321 ∷ [];
+        numbers = 1296 ∷ 1301 ∷ 1306 ∷ 1311 ∷ 1316 ∷ 1321 ∷ [];
       };
     }
     -- every node of the seven calls with itself
@@ -125,6 +129,17 @@ cases =
         total = 10;
         levels = pos 0 ∷ pos 1 ∷ pos 2 ∷ negsuc 0 ∷ [];
         numbers = [];
+      };
+    }
+    -- a light child that arrives after the heavy one starts before it: 4, then 1 with its light children 2 and 3
+    ∷ record {
+      calls = lightAfterHeavy;
+      asked = startOf 4 ∷ startOf 1 ∷ startOf 2 ∷ startOf 3 ∷ [];
+      due = record {
+        replies = grown 0 1 ∷ grown 1 2 ∷ grown 2 3 ∷ grown 3 4 ∷ grown 4 5 ∷ [];
+        total = 15;
+        levels = pos 0 ∷ pos 1 ∷ pos 2 ∷ pos 2 ∷ pos 1 ∷ [];
+        numbers = 625 ∷ 630 ∷ 635 ∷ 640 ∷ [];
       };
     }
     ∷ []

@@ -83,4 +83,4 @@ unfolding cases fourth
     soughtIn isRow covers arrive climb atEntry pastEntry pastReach pastSpan sideFrom isOnRow forked meeting branchOf join between storedFrom
     isAbove leadsOn lowerX lowerY lowered areRows plainFrom plainAnswer isServed answerServed asked question
     step run totalIn
-starred-cases = (refl, (refl, (refl, (refl, tt))))
+starred-cases = (refl, (refl, (refl, (refl, (refl, tt)))))
