@@ -1,3 +1,4 @@
+pub mod Asked
 pub mod Printed
 pub mod PrintedLaws
 pub mod Report
@@ -10,4 +11,11 @@ pub mod PageLaws
 pub mod PlaceLaws
 pub mod TranscriptLaws
 pub mod WholeLaws
+pub mod Level
+pub mod Listing
+pub mod LevelLaws
+pub mod Logged
+pub mod ReadingLaws
+pub mod ReplyLaws
 pub mod Exact
+pub mod WorkedLog

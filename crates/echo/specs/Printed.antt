@@ -4,6 +4,7 @@ use Prim.Native.Nat.{ℕ}
 use Prim.Native.Char.{code}
 use lib.IntN.{ℤ, pos}
 use lib.ListN.{take}
+use Rattle.lines.specs.Line.{lineOf}
 use Rattle.rows.specs.Row.{levelAt}
 use Rattle.sequence.specs.Calls.{Call, first, leaf, root, rootOver, link, question, alike, inspection, Reply, refused, grown, linked, answered, same, inspected}
 use Rattle.sequence.specs.Run.{Turn}
@@ -25,13 +26,13 @@ abbrev pub refusal : ℕ → Printed
 refusal n = record { letter = code "R"; values = pos n ∷ [] }
 
 -- a reply to a call that prints this letter where it is served; a growth prints the new node, its level and the rows renumbered
-abbrev pub printed : ℕ → List ℤ → Reply → Printed
-printed letter levels (refused n) = refusal n
-printed letter levels (grown n rows) = record { letter = letter; values = pos n ∷ levelAt levels n ∷ pos rows ∷ [] }
-printed letter levels (linked rows) = record { letter = letter; values = pos rows ∷ [] }
-printed letter levels (answered a u v i j l) = record { letter = letter; values = pos a ∷ pos u ∷ pos v ∷ i ∷ j ∷ pos l ∷ [] }
-printed letter levels (same b) = record { letter = letter; values = pos b ∷ [] }
-printed letter levels (inspected b) = record { letter = letter; values = [] }
+abbrev pub printed : ℕ → (ℕ → ℤ) → Reply → Printed
+printed letter level (refused n) = refusal n
+printed letter level (grown n rows) = record { letter = letter; values = pos n ∷ level n ∷ pos rows ∷ [] }
+printed letter level (linked rows) = record { letter = letter; values = pos rows ∷ [] }
+printed letter level (answered a u v i j l) = record { letter = letter; values = pos a ∷ pos u ∷ pos v ∷ i ∷ j ∷ pos l ∷ [] }
+printed letter level (same b) = record { letter = letter; values = pos b ∷ [] }
+printed letter level (inspected b) = record { letter = letter; values = [] }
 
 -- the letters; no field asks for the other calls
 abbrev pub unasked : ℕ
@@ -47,9 +48,13 @@ letterOf (question x y) = questionLetter
 letterOf (alike x y) = alikeLetter
 letterOf (inspection s) = unasked
 
--- what a call prints, by its turn
+-- what a call prints, by its turn; the level is that of the table after it
 abbrev pub printedBy : Call → Turn → Printed
-printedBy q t = printed (letterOf q) (t .after .parts .levels) (t .reply)
+printedBy q t = printed (letterOf q) (levelAt (t .after .parts .levels)) (t .reply)
+
+-- the line of a field of this ordinal
+abbrev pub printedLine : ℕ → Printed → List ℕ
+printedLine ordinal p = lineOf ordinal (p .letter) (p .values)
 
 -- the letter and the first of the six values
 abbrev pub printedOf : Shown → Printed

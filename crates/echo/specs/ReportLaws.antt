@@ -4,7 +4,7 @@ use mathlib.Core.List.{List, []}
 use lib.IntN.{ℤ}
 use Prim.Native.Nat.{ℕ}
 use lib.ListN.{length}
-use Rattle.rows.specs.Row.{Parts}
+use Rattle.rows.specs.Row.{Parts, levelAt}
 use Rattle.rows.specs.declared.state.State.{State}
 use Rattle.growth.specs.declared.Grown.{Grown}
 use Rattle.growth.specs.Growth.{Outcome, outcome, addLeaf, addRoot}
@@ -21,7 +21,7 @@ use Rattle.echo.specs.Report.{reportBy, report, fastOf, reportOf}
 
 -- what the code answers of a growth
 pub record OfGrowth (letter : ℕ) (t : Parts) (s : State) (g : Grown) (r : Served) : Type 0 where
-  pub shown : printedOf (r .shown) ≡ printed letter (t .levels) (grownReply g)
+  pub shown : printedOf (r .shown) ≡ printed letter (levelAt (t .levels)) (grownReply g)
   pub rows : r .rows ≡ rowsIn (grownReply g)
   pub state : r .state ≡ stateAfter s g
 
@@ -42,17 +42,17 @@ module _ (t u : Parts) (s : State) (g : Grown) (r : Served) where
 
 -- a question or alike, which changes nothing, prints no level and renumbers no row
 
-question-levels : (levels : List ℤ) (o : QuestionOutcome) → printed questionLetter [] (questionReply o) ≡ printed questionLetter levels (questionReply o)
-question-levels levels (noAnswer n) = refl
-question-levels levels (answer a u v i j l) = refl
+question-levels : (level : ℕ → ℤ) (o : QuestionOutcome) → printed questionLetter (levelAt []) (questionReply o) ≡ printed questionLetter level (questionReply o)
+question-levels level (noAnswer n) = refl
+question-levels level (answer a u v i j l) = refl
 
 question-rows : (o : QuestionOutcome) → 0 ≡ rowsIn (questionReply o)
 question-rows (noAnswer n) = refl
 question-rows (answer a u v i j l) = refl
 
-alike-levels : (levels : List ℤ) (o : AlikeOutcome) → printed alikeLetter [] (alikeReply o) ≡ printed alikeLetter levels (alikeReply o)
-alike-levels levels (noValue n) = refl
-alike-levels levels (value b) = refl
+alike-levels : (level : ℕ → ℤ) (o : AlikeOutcome) → printed alikeLetter (levelAt []) (alikeReply o) ≡ printed alikeLetter level (alikeReply o)
+alike-levels level (noValue n) = refl
+alike-levels level (value b) = refl
 
 alike-rows : (o : AlikeOutcome) → 0 ≡ rowsIn (alikeReply o)
 alike-rows (noValue n) = refl
@@ -63,12 +63,12 @@ module _ (t : Parts) (s : State) (x y : ℕ) (shown : Shown) where
   abbrev pub unchanged : Served
   unchanged = record { state = s; rows = 0; shown = shown }
 
-  pub question-report : (o : QuestionOutcome) → o ≡ ask t s x y → printedOf shown ≡ printed questionLetter [] (questionReply o)
+  pub question-report : (o : QuestionOutcome) → o ≡ ask t s x y → printedOf shown ≡ printed questionLetter (levelAt []) (questionReply o)
       → reportOf t unchanged ≡ report (fastOf t s) (question x y)
   unfolding report step
-  question-report o e p = rw (← e, p, question-levels (t .levels) o, ← question-rows o)
+  question-report o e p = rw (← e, p, question-levels (levelAt (t .levels)) o, ← question-rows o)
 
-  pub alike-report : (o : AlikeOutcome) → o ≡ compare t s x y → printedOf shown ≡ printed alikeLetter [] (alikeReply o)
+  pub alike-report : (o : AlikeOutcome) → o ≡ compare t s x y → printedOf shown ≡ printed alikeLetter (levelAt []) (alikeReply o)
       → reportOf t unchanged ≡ report (fastOf t s) (alike x y)
   unfolding report step
-  alike-report o e p = rw (← e, p, alike-levels (t .levels) o, ← alike-rows o)
+  alike-report o e p = rw (← e, p, alike-levels (levelAt (t .levels)) o, ← alike-rows o)

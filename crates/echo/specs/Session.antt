@@ -3,18 +3,16 @@ use mathlib.Core.Bool.{Bool, true, false, not}
 use mathlib.Core.List.{List, []}
 use Prim.Native.Nat.{ℕ, _+_}
 use lib.Dec.{eqb}
-use lib.ListN.{getD, take}
-use Rattle.laws.specs.Test.{pick}
+use lib.ListN.{take}
 use Rattle.log.specs.Outcome.{Outcome, end, refusal as refused, field}
 use Rattle.log.specs.Field.{fieldAt}
-use Rattle.lines.specs.Line.{lineOf}
 use Rattle.lines.specs.declared.Text.{Text}
 use Rattle.rows.specs.Row.{Parts}
-use Rattle.sequence.specs.Calls.{Call, leaf, root, question, alike}
 use Rattle.sequence.specs.Run.{Fast}
 use Rattle.echo.specs.declared.turn.Reading.{Reading}
 use Rattle.echo.specs.declared.turn.Turn.{Turn}
-use Rattle.echo.specs.Printed.{Printed, refusal}
+use Rattle.echo.specs.Printed.{refusal, printedLine}
+use Rattle.echo.specs.Asked.{Asked, call, nothing, askedBy}
 use Rattle.echo.specs.Report.{Report, report, fastOf}
 
 -- how far the log is read, the ordinal of the next field, the rows renumbered so far, the table, and whether the reading goes on
@@ -29,22 +27,6 @@ pub record Session : Type 0 where
 pub record Step : Type 0 where
   pub text : List ℕ
   pub after : Session
-
--- what a whole field asks for, by its tag and values: a call, or nothing
-pub data Asked : Type 0 where
-  call : Call → Asked
-  nothing : Asked
-
-abbrev pub askedBy : List ℕ → ℕ → List ℕ → Asked
-askedBy scratch tag v =
-    pick (eqb tag 1) (call (leaf (getD v 0 0) (getD v 1 0) scratch))
-    (pick (eqb tag 2) (call (root scratch))
-    (pick (eqb tag 3) (call (question (getD v 0 0) (getD v 1 0)))
-    (pick (eqb tag 4) (call (alike (getD v 0 0) (getD v 1 0)))
-    nothing)))
-
-abbrev pub printedLine : ℕ → Printed → List ℕ
-printedLine ordinal p = lineOf ordinal (p .letter) (p .values)
 
 -- a call's field prints its line
 abbrev pub reported : ℕ → ℕ → ℕ → Report → Step

@@ -17,10 +17,10 @@ use Rattle.rows.specs.Row.{Parts}
 use Rattle.echo.specs.declared.reply.Shown.{Shown}
 use Rattle.echo.specs.declared.serve.Served.{Served}
 use Rattle.echo.specs.declared.turn.Reading.{Reading}
-use Rattle.echo.specs.Printed.{printedOf, refusal}
+use Rattle.echo.specs.Printed.{printedOf, refusal, printedLine}
 use Rattle.echo.specs.Bounds.{Holds}
 use Rattle.echo.specs.Report.{Report, reportOf}
-use Rattle.echo.specs.Session.{Session, Step, printedLine, reported, refusedField, stepBy, stepOf, sessionOf, written, turnOf}
+use Rattle.echo.specs.Session.{Session, Step, reported, refusedField, stepBy, stepOf, sessionOf, written, turnOf}
 
 -- a text's bytes are its line
 pub written-text : (text : Text) (line : List ℕ) → text ≡ textOf line → written text ≡ line

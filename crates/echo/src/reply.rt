@@ -7,6 +7,7 @@ use rows::row::level;
 ghost use mathlib.Core.Path.{_≡_};
 ghost use mathlib.Core.List.{[], _∷_};
 ghost use lib.IntN.{pos};
+ghost use Rattle.rows.specs.Row.{levelAt};
 ghost use Rattle.query.specs.Outcome.{outcomeOf as answerOf};
 ghost use Rattle.alike.specs.Outcome.{outcomeOf as sameOf};
 ghost use Rattle.sequence.specs.Run.{grownReply, questionReply, alikeReply};
@@ -44,7 +45,7 @@ pub fn refused(n: u16) -> Shown
 
 // The new node, its level in the levels afterwards, and the rows renumbered.
 pub fn grown(letter: u8, levels: &[i32], g: Grown) -> Shown
-    ensures { λ r. ⌜ printedOf r ≡ printed letter (now (levels .entry)) (grownReply g) ⌝ }
+    ensures { λ r. ⌜ printedOf r ≡ printed letter (levelAt (now (levels .entry))) (grownReply g) ⌝ }
 {
     match g {
         Grown::Refused(r) => refused(number_of(r)),
@@ -65,7 +66,7 @@ pub fn grown(letter: u8, levels: &[i32], g: Grown) -> Shown
 
 // The nearest common ancestor, both branches, both distances and the ancestor's label.
 pub fn answered(a: Answered) -> Shown
-    ensures { λ r. ⌜ printedOf r ≡ printed questionLetter [] (questionReply (answerOf a)) ⌝ }
+    ensures { λ r. ⌜ printedOf r ≡ printed questionLetter (levelAt []) (questionReply (answerOf a)) ⌝ }
 {
     match a {
         Answered::Refused(r) => refused(number_of(r)),
@@ -86,7 +87,7 @@ pub fn answered(a: Answered) -> Shown
 
 // 1 or 0.
 pub fn compared(c: Compared) -> Shown
-    ensures { λ r. ⌜ printedOf r ≡ printed alikeLetter [] (alikeReply (sameOf c)) ⌝ }
+    ensures { λ r. ⌜ printedOf r ≡ printed alikeLetter (levelAt []) (alikeReply (sameOf c)) ⌝ }
 {
     match c {
         Compared::Refused(r) => refused(number_of(r)),

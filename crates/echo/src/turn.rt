@@ -8,7 +8,7 @@ use crate::serve::serve_root;
 use lines::Text;
 use lines::line;
 use log::Field;
-use log::field_at;
+use reader::read_at;
 use rows::state::State;
 ghost use mathlib.Core.Path.{_≡_};
 ghost use Prim.Native.Nat.{_+_, _≤_};
@@ -110,7 +110,7 @@ pub fn take_turn(
     ensures grows { λ r. ⌜ Grows reading r ⌝ }
 {
     let state = reading.state;
-    let found = field_at(log, reading.place);
+    let found = read_at(log, reading.place);
     match found {
         Field::End => silent_turn(reading, reading.place, reading.ordinal, false),
         Field::BadTag(next) => refused_turn(reading, 6, next),

@@ -8,8 +8,8 @@ use borrow.Author.Needs.{needs}
 use Rattle.echo.proofs.turn.take_turn.Statement.{statement}
 use Rattle.echo.proofs.turn.take_turn.Tie as tie
 
-field-at-requires : tie.Need-field-at-requires
-field-at-requires c κs = search needs
+read-at-requires : tie.Need-read-at-requires
+read-at-requires c κs = search needs
 
 enum-told : tie.Need-enum-told
 enum-told c = search needs
@@ -88,27 +88,27 @@ served-turn-requires-4 c κs = search needs
 
 returns : tie.Need-returns
 returns c = let a = c .before .before .before .before .before .before .before .before .before .before .args in let t = (partsOf (a .fields .now) (a .numbers .now) (a .levels .now) (a .ancestors .now)) in
-    (c .silent-turn .ensures .0 t ∙ step-from (a .log .now) (a .scratch .now) (sessionOf t (a .reading)) (c .before .before .before .field-at .result) (c .before .before .before .field-at .ensures) _ (c .before .enum-told .given .1), c .silent-turn .ensures .1 (omega arith))
+    (c .silent-turn .ensures .0 t ∙ step-from (a .log .now) (a .scratch .now) (sessionOf t (a .reading)) (c .before .before .before .read-at .result) (c .before .before .before .read-at .ensures) _ (c .before .enum-told .given .1), c .silent-turn .ensures .1 (omega arith))
 
 returns-2 : tie.Need-returns-2
 returns-2 c = let a = c .before .before .before .before .before .before .before .before .before .before .before .args in let t = (partsOf (a .fields .now) (a .numbers .now) (a .levels .now) (a .ancestors .now)) in
-    (c .refused-turn .ensures .0 t ∙ step-from (a .log .now) (a .scratch .now) (sessionOf t (a .reading)) (c .before .before .before .before .field-at .result) (c .before .before .before .before .field-at .ensures) _ (c .before .before .found .given .1), c .refused-turn .ensures .1)
+    (c .refused-turn .ensures .0 t ∙ step-from (a .log .now) (a .scratch .now) (sessionOf t (a .reading)) (c .before .before .before .before .read-at .result) (c .before .before .before .before .read-at .ensures) _ (c .before .before .found .given .1), c .refused-turn .ensures .1)
 
 returns-3 : tie.Need-returns-3
 returns-3 c = let a = c .before .before .before .before .before .before .before .before .before .before .before .args in let t = (partsOf (a .fields .now) (a .numbers .now) (a .levels .now) (a .ancestors .now)) in
-    (c .refused-turn2 .ensures .0 t ∙ step-from (a .log .now) (a .scratch .now) (sessionOf t (a .reading)) (c .before .before .before .before .field-at .result) (c .before .before .before .before .field-at .ensures) _ (c .before .before .found2 .given .1), c .refused-turn2 .ensures .1)
+    (c .refused-turn2 .ensures .0 t ∙ step-from (a .log .now) (a .scratch .now) (sessionOf t (a .reading)) (c .before .before .before .before .read-at .result) (c .before .before .before .before .read-at .ensures) _ (c .before .before .found2 .given .1), c .refused-turn2 .ensures .1)
 
 returns-4 : tie.Need-returns-4
 returns-4 c = let a = c .before .before .before .before .before .before .before .before .before .before .before .args in let t = (partsOf (a .fields .now) (a .numbers .now) (a .levels .now) (a .ancestors .now)) in
-    (c .refused-turn3 .ensures .0 t ∙ step-from (a .log .now) (a .scratch .now) (sessionOf t (a .reading)) (c .before .before .before .before .field-at .result) (c .before .before .before .before .field-at .ensures) _ (c .before .before .found3 .given .1), c .refused-turn3 .ensures .1)
+    (c .refused-turn3 .ensures .0 t ∙ step-from (a .log .now) (a .scratch .now) (sessionOf t (a .reading)) (c .before .before .before .before .read-at .result) (c .before .before .before .before .read-at .ensures) _ (c .before .before .found3 .given .1), c .refused-turn3 .ensures .1)
 
 returns-5 : tie.Need-returns-5
 returns-5 c = let a = c .before .before .before .before .before .before .before .before .before .before .before .args in let t = (partsOf (a .fields .now) (a .numbers .now) (a .levels .now) (a .ancestors .now)) in
-    (c .refused-turn4 .ensures .0 t ∙ step-from (a .log .now) (a .scratch .now) (sessionOf t (a .reading)) (c .before .before .before .before .field-at .result) (c .before .before .before .before .field-at .ensures) _ (c .before .before .found4 .given .1), c .refused-turn4 .ensures .1)
+    (c .refused-turn4 .ensures .0 t ∙ step-from (a .log .now) (a .scratch .now) (sessionOf t (a .reading)) (c .before .before .before .before .read-at .result) (c .before .before .before .before .read-at .ensures) _ (c .before .before .found4 .given .1), c .refused-turn4 .ensures .1)
 
 returns-6 : tie.Need-returns-6
 returns-6 c = let a = c .before .before .before .before .before .before .before .before .before .before .before .before .args in let t = (partsOf (a .fields .now) (a .numbers .now) (a .levels .now) (a .ancestors .now)) in
-    (c .silent-turn2 .ensures .0 t ∙ step-from (a .log .now) (a .scratch .now) (sessionOf t (a .reading)) (c .before .before .before .before .before .field-at .result) (c .before .before .before .before .before .field-at .ensures) _ (c .before .before .before .found5 .given .1), c .silent-turn2 .ensures .1 (omega arith))
+    (c .silent-turn2 .ensures .0 t ∙ step-from (a .log .now) (a .scratch .now) (sessionOf t (a .reading)) (c .before .before .before .before .before .read-at .result) (c .before .before .before .before .before .read-at .ensures) _ (c .before .before .before .found5 .given .1), c .silent-turn2 .ensures .1 (omega arith))
 
 same-length : tie.Need-same-length
 same-length c = search needs
@@ -124,7 +124,7 @@ same-length-4 c = search needs
 
 returns-7 : tie.Need-returns-7
 returns-7 c = let a = c .before .before .before .before .before .before .before .before .before .before .before .before .before .before .before .before .before .before .before .before .before .before .before .args in let t = (partsOf (a .fields .now) (a .numbers .now) (a .levels .now) (a .ancestors .now)) in (
-  served-from (a .log .now) (a .scratch .now) (sessionOf t (a .reading)) (c .before .before .before .before .before .before .before .before .before .before .before .before .before .before .before .before .field-at .result) (c .before .before .before .before .before .before .before .before .before .before .before .before .before .before .before .before .field-at .ensures) _ (c .before .before .before .before .before .before .before .before .before .before .before .before .before .before .found6 .given .1) refl
+  served-from (a .log .now) (a .scratch .now) (sessionOf t (a .reading)) (c .before .before .before .before .before .before .before .before .before .before .before .before .before .before .before .before .read-at .result) (c .before .before .before .before .before .before .before .before .before .before .before .before .before .before .before .before .read-at .ensures) _ (c .before .before .before .before .before .before .before .before .before .before .before .before .before .before .found6 .given .1) refl
       (c .served-turn .ensures .0 _) (c .before .before .before .before .before .before .before .before .serve-leaf .ensures),
   c .served-turn .ensures .1,
 )
@@ -143,7 +143,7 @@ same-length-8 c = search needs
 
 returns-8 : tie.Need-returns-8
 returns-8 c = let a = c .before .before .before .before .before .before .before .before .before .before .before .before .before .before .before .before .before .before .before .before .before .before .before .args in let t = (partsOf (a .fields .now) (a .numbers .now) (a .levels .now) (a .ancestors .now)) in (
-  served-from (a .log .now) (a .scratch .now) (sessionOf t (a .reading)) (c .before .before .before .before .before .before .before .before .before .before .before .before .before .before .before .before .field-at .result) (c .before .before .before .before .before .before .before .before .before .before .before .before .before .before .before .before .field-at .ensures) _ (c .before .before .before .before .before .before .before .before .before .before .before .before .before .before .found7 .given .1) refl
+  served-from (a .log .now) (a .scratch .now) (sessionOf t (a .reading)) (c .before .before .before .before .before .before .before .before .before .before .before .before .before .before .before .before .read-at .result) (c .before .before .before .before .before .before .before .before .before .before .before .before .before .before .before .before .read-at .ensures) _ (c .before .before .before .before .before .before .before .before .before .before .before .before .before .before .found7 .given .1) refl
       (c .served-turn2 .ensures .0 _) (c .before .before .before .before .before .before .before .before .serve-root .ensures),
   c .served-turn2 .ensures .1,
 )
@@ -162,7 +162,7 @@ same-length-12 c = search needs
 
 returns-9 : tie.Need-returns-9
 returns-9 c = let a = c .before .before .before .before .before .before .before .before .before .before .before .before .before .before .before .before .args in let t = (partsOf (a .fields .now) (a .numbers .now) (a .levels .now) (a .ancestors .now)) in (
-  served-from (a .log .now) (a .scratch .now) (sessionOf t (a .reading)) (c .before .before .before .before .before .before .before .before .before .field-at .result) (c .before .before .before .before .before .before .before .before .before .field-at .ensures) _ (c .before .before .before .before .before .before .before .found8 .given .1) refl
+  served-from (a .log .now) (a .scratch .now) (sessionOf t (a .reading)) (c .before .before .before .before .before .before .before .before .before .read-at .result) (c .before .before .before .before .before .before .before .before .before .read-at .ensures) _ (c .before .before .before .before .before .before .before .found8 .given .1) refl
       (c .served-turn3 .ensures .0 _) (c .before .serve-question .ensures),
   c .served-turn3 .ensures .1,
 )
@@ -181,7 +181,7 @@ same-length-16 c = search needs
 
 returns-10 : tie.Need-returns-10
 returns-10 c = let a = c .before .before .before .before .before .before .before .before .before .before .before .before .before .before .before .before .args in let t = (partsOf (a .fields .now) (a .numbers .now) (a .levels .now) (a .ancestors .now)) in (
-  served-from (a .log .now) (a .scratch .now) (sessionOf t (a .reading)) (c .before .before .before .before .before .before .before .before .before .field-at .result) (c .before .before .before .before .before .before .before .before .before .field-at .ensures) _ (c .before .before .before .before .before .before .before .found9 .given .1) refl
+  served-from (a .log .now) (a .scratch .now) (sessionOf t (a .reading)) (c .before .before .before .before .before .before .before .before .before .read-at .result) (c .before .before .before .before .before .before .before .before .before .read-at .ensures) _ (c .before .before .before .before .before .before .before .found9 .given .1) refl
       (c .served-turn4 .ensures .0 _) (c .before .serve-alike .ensures),
   c .served-turn4 .ensures .1,
 )
@@ -190,7 +190,7 @@ pub take-turn-spec : {M : Type 1} → statement M
 take-turn-spec =
     tie.close
     (tie.spec
-    field-at-requires
+    read-at-requires
     enum-told
     silent-turn-requires
     enum-known-found
