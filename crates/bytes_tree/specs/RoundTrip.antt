@@ -17,7 +17,7 @@ use Rattle.bytes_tree.specs.Sign.{signed, unsigned, Levels32}
 use Rattle.bytes_tree.specs.SignLaws.{signed-unsigned, unsigned-signed, unsigned-small}
 use Rattle.bytes_tree.specs.Column.{numbersAt, levelsAt, columnOf}
 use Rattle.bytes_tree.specs.ColumnLaws.{length-column}
-use Rattle.bytes_tree.specs.Tree.{treeRows, treeBytes, fieldsPlace, numbersPlace, levelsPlace, ancestorsPlace, stateIn, partsIn, encoded, Under, InBytes}
+use Rattle.bytes_tree.specs.Tree.{treeRows, fieldCount, numberCount, entryCount, treeBytes, fieldsPlace, numbersPlace, levelsPlace, ancestorsPlace, stateIn, partsIn, encoded, Under, InBytes}
 
 -- Columns, over any width
 
@@ -130,17 +130,17 @@ module _ (s : State) (t : Parts) (f : Fits treeRows t) (g : InBytes s t) where
       let n = columnOf 8 (t .numbers) in
       let v = columnOf 4 (map unsigned (t .levels)) in
       let a = columnOf 2 (t .ancestors) in
-      let lx : length x ≡ 3072 = length-column 2 (t .fields) ∙ ap (λ (k : ℕ). k * 2) (f .fields) in
-      let ln : length n ≡ 2048 = length-column 8 (t .numbers) ∙ ap (λ (k : ℕ). k * 8) (f .numbers) in
-      let lv : length v ≡ 512 = length-column 4 (map unsigned (t .levels)) ∙ ap (λ (k : ℕ). k * 4) (length-map (t .levels) unsigned ∙ f .levels) in
+      let lx : length x ≡ fieldCount * 2 = length-column 2 (t .fields) ∙ ap (λ (k : ℕ). k * 2) (f .fields) in
+      let ln : length n ≡ numberCount * 8 = length-column 8 (t .numbers) ∙ ap (λ (k : ℕ). k * 8) (f .numbers) in
+      let lv : length v ≡ treeRows * 4 = length-column 4 (map unsigned (t .levels)) ∙ ap (λ (k : ℕ). k * 4) (length-map (t .levels) unsigned ∙ f .levels) in
       let e : x ++ (n ++ (v ++ a)) ≡ (x ++ (n ++ v)) ++ (a ++ []) = simp (append-assoc, append-nil) in
       parts-eq t
-      (column-read c (n ++ (v ++ a)) fieldsPlace 1536 refl 2 (t .fields) (f .fields) (g .fields))
-      (column-read (c ++ x) (v ++ a) numbersPlace 256 (omega arith) 8 (t .numbers) (f .numbers) (g .numbers))
-      (ap (λ (l : List ℕ). levelsAt 128 (c ++ l) levelsPlace) (sym (append-assoc x n (v ++ a)))
-      ∙ levels-read (c ++ (x ++ n)) a levelsPlace 128 (simp length-append (omega arith)) (t .levels) (f .levels) (g .levels))
-      (ap (λ (l : List ℕ). numbersAt 2 15616 (c ++ l) ancestorsPlace) e
-      ∙ column-read (c ++ (x ++ (n ++ v))) [] ancestorsPlace 15616 (simp length-append (omega arith)) 2 (t .ancestors) (f .ancestors) (g .ancestors))
+      (column-read c (n ++ (v ++ a)) fieldsPlace fieldCount refl 2 (t .fields) (f .fields) (g .fields))
+      (column-read (c ++ x) (v ++ a) numbersPlace numberCount (omega arith) 8 (t .numbers) (f .numbers) (g .numbers))
+      (ap (λ (l : List ℕ). levelsAt treeRows (c ++ l) levelsPlace) (sym (append-assoc x n (v ++ a)))
+      ∙ levels-read (c ++ (x ++ n)) a levelsPlace treeRows (simp length-append (omega arith)) (t .levels) (f .levels) (g .levels))
+      (ap (λ (l : List ℕ). numbersAt 2 entryCount (c ++ l) ancestorsPlace) e
+      ∙ column-read (c ++ (x ++ (n ++ v))) [] ancestorsPlace entryCount (simp length-append (omega arith)) 2 (t .ancestors) (f .ancestors) (g .ancestors))
 
 -- what stands at a place and what follows it
 follow : (b : List ℕ) (p n : ℕ) {a r : List ℕ} → a ≡ take n (drop p b) → r ≡ drop (p + n) b → a ++ r ≡ drop p b
@@ -151,11 +151,11 @@ follow b p n {a} {r} x y =
 pub bytes-back : (b : List ℕ) → length b ≡ treeBytes → Under 256 b → encoded (stateIn b) (partsIn b) ≡ b
 unfolding encoded stateIn partsIn
 bytes-back b e u =
-    let entries : columnOf 2 (numbersAt 2 15616 b ancestorsPlace) ≡ drop ancestorsPlace b =
-    column-written b u 2 ancestorsPlace 15616 (omega arith) ∙ take-all 31232 (drop ancestorsPlace b) (rw length-drop (omega arith)) in
-    let levels : columnOf 4 (map unsigned (levelsAt 128 b levelsPlace)) ≡ take 512 (drop levelsPlace b) =
-    ap (columnOf 4) (levels-written b u levelsPlace 128) ∙ column-written b u 4 levelsPlace 128 (omega arith) in
+    let entries : columnOf 2 (numbersAt 2 entryCount b ancestorsPlace) ≡ drop ancestorsPlace b =
+    column-written b u 2 ancestorsPlace entryCount (omega arith) ∙ take-all (entryCount * 2) (drop ancestorsPlace b) (rw length-drop (omega arith)) in
+    let levels : columnOf 4 (map unsigned (levelsAt treeRows b levelsPlace)) ≡ take (treeRows * 4) (drop levelsPlace b) =
+    ap (columnOf 4) (levels-written b u levelsPlace treeRows) ∙ column-written b u 4 levelsPlace treeRows (omega arith) in
     follow b 0 2 (bytes-at b u 2 0 (omega arith))
-    (follow b fieldsPlace 3072 (column-written b u 2 fieldsPlace 1536 (omega arith))
-    (follow b numbersPlace 2048 (column-written b u 8 numbersPlace 256 (omega arith))
-    (follow b levelsPlace 512 levels entries)))
+    (follow b fieldsPlace (fieldCount * 2) (column-written b u 2 fieldsPlace fieldCount (omega arith))
+    (follow b numbersPlace (numberCount * 8) (column-written b u 8 numbersPlace numberCount (omega arith))
+    (follow b levelsPlace (treeRows * 4) levels entries)))

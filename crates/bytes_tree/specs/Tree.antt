@@ -1,32 +1,44 @@
 -- A tree of capacity 128 as one run of bytes (01: "trees of capacity 128 kept as one run of bytes"), its numbers in the places of docs/FORMAT.md.
 use mathlib.Core.List.{List, _++_, map}
-use Prim.Native.Nat.{ℕ, _<_}
+use Prim.Native.Nat.{ℕ, _+_, _*_, _<_}
 use lib.ListN.{length, getD}
 use Rattle.rows.specs.declared.state.State.{State}
+use Rattle.rows.specs.Layout.{fieldStride, numberStride, entryStride}
 use Rattle.rows.specs.Row.{Parts, partsOf}
 use Rattle.bytes_tree.specs.Bytes.{bytes, valueAt}
 use Rattle.bytes_tree.specs.Sign.{unsigned, Levels32}
 use Rattle.bytes_tree.specs.Column.{numbersAt, levelsAt, columnOf}
 
--- how many rows, and how many bytes
+-- how many rows
 abbrev pub treeRows : ℕ
 treeRows = 128
 
-abbrev pub treeBytes : ℕ
-treeBytes = 36866
+-- how many numbers each part has
+abbrev pub fieldCount : ℕ
+fieldCount = treeRows * fieldStride
 
--- the places of the columns; the count is at 0
+abbrev pub numberCount : ℕ
+numberCount = treeRows * numberStride
+
+abbrev pub entryCount : ℕ
+entryCount = treeRows * entryStride
+
+-- the places of the columns, one after another; the count is at 0
 abbrev pub fieldsPlace : ℕ
 fieldsPlace = 2
 
 abbrev pub numbersPlace : ℕ
-numbersPlace = 3074
+numbersPlace = fieldsPlace + fieldCount * 2
 
 abbrev pub levelsPlace : ℕ
-levelsPlace = 5122
+levelsPlace = numbersPlace + numberCount * 8
 
 abbrev pub ancestorsPlace : ℕ
-ancestorsPlace = 5634
+ancestorsPlace = levelsPlace + treeRows * 4
+
+-- how many bytes
+abbrev pub treeBytes : ℕ
+treeBytes = ancestorsPlace + entryCount * 2
 
 -- the count that bytes hold
 unfoldable pub stateIn : List ℕ → State
@@ -34,7 +46,7 @@ stateIn b = record { count = valueAt 2 b 0 }
 
 -- and the parts of the table
 unfoldable pub partsIn : List ℕ → Parts
-partsIn b = partsOf (numbersAt 2 1536 b fieldsPlace) (numbersAt 8 256 b numbersPlace) (levelsAt 128 b levelsPlace) (numbersAt 2 15616 b ancestorsPlace)
+partsIn b = partsOf (numbersAt 2 fieldCount b fieldsPlace) (numbersAt 8 numberCount b numbersPlace) (levelsAt treeRows b levelsPlace) (numbersAt 2 entryCount b ancestorsPlace)
 
 -- a tree as bytes
 unfoldable pub encoded : State → Parts → List ℕ

@@ -15,7 +15,7 @@ use Rattle.bytes_tree.specs.BytesLaws.{sets-join, sets-all}
 use Rattle.bytes_tree.specs.Sign.{signed, unsigned}
 use Rattle.bytes_tree.specs.Column.{numbersAt, levelsAt, columnOf}
 use Rattle.bytes_tree.specs.ColumnLaws.{length-column}
-use Rattle.bytes_tree.specs.Tree.{treeRows, treeBytes, fieldsPlace, numbersPlace, levelsPlace, ancestorsPlace, partsIn, encoded}
+use Rattle.bytes_tree.specs.Tree.{treeRows, fieldCount, numberCount, entryCount, treeBytes, fieldsPlace, numbersPlace, levelsPlace, ancestorsPlace, partsIn, encoded}
 
 pub length-numbers : (w n : ℕ) (l : List ℕ) (place : ℕ) → length (numbersAt w n l place) ≡ n
 unfolding numbersAt
@@ -31,10 +31,10 @@ unfolding partsIn
 parts-fit b = record {
   least = omega arith;
   most = omega arith;
-  levels = length-levels 128 b _;
-  fields = length-numbers 2 1536 b _;
-  numbers = length-numbers 8 256 b _;
-  ancestors = length-numbers 2 15616 b _;
+  levels = length-levels treeRows b _;
+  fields = length-numbers 2 fieldCount b _;
+  numbers = length-numbers 8 numberCount b _;
+  ancestors = length-numbers 2 entryCount b _;
 }
 
 -- parts that were read one by one
@@ -65,9 +65,9 @@ tree-stored l s t e f =
     let n = columnOf 8 (t .numbers) in
     let v = columnOf 4 (map unsigned (t .levels)) in
     let a = columnOf 2 (t .ancestors) in
-    let lx : length x ≡ 3072 = length-column 2 (t .fields) ∙ ap (λ (k : ℕ). k * 2) (f .fields) in
-    let ln : length n ≡ 2048 = length-column 8 (t .numbers) ∙ ap (λ (k : ℕ). k * 8) (f .numbers) in
-    let lv : length v ≡ 512 = length-column 4 (map unsigned (t .levels)) ∙ ap (λ (k : ℕ). k * 4) (length-map (t .levels) unsigned ∙ f .levels) in
+    let lx : length x ≡ fieldCount * 2 = length-column 2 (t .fields) ∙ ap (λ (k : ℕ). k * 2) (f .fields) in
+    let ln : length n ≡ numberCount * 8 = length-column 8 (t .numbers) ∙ ap (λ (k : ℕ). k * 8) (f .numbers) in
+    let lv : length v ≡ treeRows * 4 = length-column 4 (map unsigned (t .levels)) ∙ ap (λ (k : ℕ). k * 4) (length-map (t .levels) unsigned ∙ f .levels) in
     let b1 = sets l 0 c in
     let b2 = sets b1 fieldsPlace x in
     let b3 = sets b2 numbersPlace n in

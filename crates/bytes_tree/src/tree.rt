@@ -7,6 +7,7 @@ use crate::columns::write16;
 use crate::columns::write64;
 use crate::word::put16;
 use crate::word::word16;
+use rows::layout;
 use rows::state::State;
 ghost use mathlib.Core.Path.{_≡_};
 ghost use lib.ListN.{length};
@@ -14,18 +15,21 @@ ghost use Rattle.rows.specs.Row.{partsOf};
 ghost use Rattle.rows.specs.Capacity.{Fits};
 ghost use Rattle.bytes_tree.specs.Tree.{treeRows, treeBytes, stateIn, partsIn, encoded, InBytes};
 
-// The bytes of a tree, and the places of its columns.
-pub const BYTES: usize = 36866;
+// The rows of a tree.
+pub const ROWS: usize = 128;
 
+// The places of its columns, one after another, and the bytes of all of it.
 const COUNT: usize = 0;
 
-const FIELDS: usize = 2;
+const FIELDS: usize = COUNT + 2;
 
-const NUMBERS: usize = 3074;
+const NUMBERS: usize = FIELDS + ROWS * layout::FIELDS * 2;
 
-const LEVELS: usize = 5122;
+const LEVELS: usize = NUMBERS + ROWS * layout::NUMBERS * 8;
 
-const ANCESTORS: usize = 5634;
+const ANCESTORS: usize = LEVELS + ROWS * 4;
+
+pub const BYTES: usize = ANCESTORS + ROWS * layout::ENTRIES * 2;
 
 pub fn read_state(b: &[u8]) -> State
     requires { ⌜ length (now b) ≡ treeBytes ⌝ }

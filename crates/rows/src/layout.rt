@@ -1,4 +1,4 @@
-// The places of a row's numbers in the lent parts, as docs/FORMAT.md lists them, and the largest label. No other file of the code writes them.
+// The places of a row's numbers in the lent parts, as docs/FORMAT.md lists them, the largest label and the limits of levels. No other file of the code writes them.
 // Names no row.
 pub const NONE: u16 = 65535;
 
@@ -31,6 +31,11 @@ pub const FIELDS: usize = 12;
 
 // Labels go from 0 to this one.
 pub const LARGEST_LABEL: u16 = 9999;
+
+// Levels go from the one to the other.
+pub const LOWEST_LEVEL: i32 = -HIGHEST_LEVEL;
+
+pub const HIGHEST_LEVEL: i32 = 32767;
 
 // 64-bit numbers of a row in `numbers`.
 pub const START: u16 = 0;
