@@ -4,10 +4,8 @@ use mathlib.Core.Path.{_≡_}
 use mathlib.Core.List.{List}
 use Prim.Native.Nat.{ℕ}
 use Rattle.rows.specs.declared.state.State.{State}
-use Rattle.rows.specs.Refusal.{numberOf}
 use Rattle.rows.specs.Row.{Parts}
-use Rattle.set_up.specs.declared.Made.{Made}
-use Rattle.set_up.specs.declared.Made.the-variants.{Empty, Refused as NotMade}
+use Rattle.set_up.specs.Outcome.{Outcome as SetUpOutcome, refusal as notMade, empty}
 use Rattle.set_up.specs.Blank.{setUp, partsAfter}
 use Rattle.growth.specs.declared.Grown.{Grown}
 use Rattle.growth.specs.declared.Grown.the-variants.{Node, Refused as NotGrown}
@@ -16,7 +14,7 @@ use Rattle.query.specs.Question.{question}
 use Rattle.bytes_tree.specs.Tree.{treeRows, treeBytes, stateIn, partsIn, encoded}
 use Rattle.replies.specs.Reply.{Reply, reply, misfit}
 use Rattle.replies.specs.ByteReply.{grownBytes, questionBytes}
-use Rattle.desk.specs.TableCalls.{onLength}
+use Rattle.desk.specs.TableCalls.{stateOf, onLength}
 
 -- the reply, and the tree's bytes afterwards
 pub record Outcome : Type 0 where
@@ -31,14 +29,14 @@ abbrev pub Held : List ℕ → State → Parts → Type 0
 Held b s t = (stateIn b ≡ s) × (partsIn b ≡ t)
 
 -- set-up has no values: its reply's out slice is the tree
-abbrev pub madeBytes : List ℕ → Made → Parts → Reply ℕ
-madeBytes b (Empty s) t = reply 0 (encoded s t)
-madeBytes b (NotMade r) t = reply (numberOf r) b
+abbrev pub madeBytes : List ℕ → SetUpOutcome → Parts → Reply ℕ
+madeBytes b (notMade n) t = reply n b
+madeBytes b (empty c) t = reply 0 (encoded (stateOf c) t)
 
 -- what bytes hold after a set-up that was served: its count, and the parts that it left
-abbrev pub MadeHeld : List ℕ → Made → Parts → Type 0
-MadeHeld b (Empty s) t = Held b s t
-MadeHeld b (NotMade r) t = Unit {0}
+abbrev pub MadeHeld : List ℕ → SetUpOutcome → Parts → Type 0
+MadeHeld b (notMade n) t = Unit {0}
+MadeHeld b (empty c) t = Held b (stateOf c) t
 
 unfoldable pub setUpTree : List ℕ → Reply ℕ
 setUpTree b = onLength treeBytes b (madeBytes b (setUp (partsIn b)) (partsAfter (partsIn b))) (misfit b)

@@ -8,7 +8,7 @@ use lib.ListN.{length}
 use Rattle.rows.specs.declared.state.State.{State}
 use Rattle.rows.specs.Row.{Parts}
 use Rattle.rows.specs.Capacity.{Fits}
-use Rattle.set_up.specs.declared.Made.{Made}
+use Rattle.set_up.specs.Outcome.{Outcome as SetUpOutcome}
 use Rattle.set_up.specs.Blank.{setUp, partsAfter}
 use Rattle.growth.specs.declared.Grown.{Grown}
 use Rattle.growth.specs.Growth.{Outcome as GrowthOutcome, addLeaf, addRoot}
@@ -50,12 +50,12 @@ module _ (b : List ℕ) {r : ℕ} where
   unfolding setUpTree
   set-up-misfit h e = rw h (off-length treeBytes b _ (misfit b) e)
 
-  pub set-up-kept : (after : List ℕ) (u t : Parts) (m : Made) → length b ≡ treeBytes → u ≡ partsIn b → m ≡ setUp u → t ≡ partsAfter u
+  pub set-up-kept : (after : List ℕ) (u t : Parts) (m : SetUpOutcome) → length b ≡ treeBytes → u ≡ partsIn b → m ≡ setUp u → t ≡ partsAfter u
       → reply r after ≡ madeBytes b m t → reply r after ≡ setUpTree b
   unfolding setUpTree
   set-up-kept after u t m e i j k h = rw (h, k, j, i) (on-length treeBytes b (madeBytes b (setUp (partsIn b)) (partsAfter (partsIn b))) (misfit b) e)
 
-pub set-up-held : (b after : List ℕ) (u t : Parts) (m : Made) → u ≡ partsIn b → m ≡ setUp u → t ≡ partsAfter u
+pub set-up-held : (b after : List ℕ) (u t : Parts) (m : SetUpOutcome) → u ≡ partsIn b → m ≡ setUp u → t ≡ partsAfter u
     → MadeHeld after m t → MadeHeld after (setUp (partsIn b)) (partsAfter (partsIn b))
 set-up-held b after u t m i j k h =
     let x : m ≡ setUp (partsIn b) = j ∙ ap setUp i in

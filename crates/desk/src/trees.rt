@@ -14,6 +14,7 @@ ghost use lib.ListN.{length};
 ghost use Rattle.rows.specs.Row.{partsOf};
 ghost use Rattle.rows.specs.Capacity.{Fits};
 ghost use Rattle.bytes_tree.specs.Tree.{treeRows, treeBytes, stateIn, partsIn};
+ghost use Rattle.set_up.specs.Outcome.{outcomeOf as emptyOf};
 ghost use Rattle.set_up.specs.Blank.{setUp, partsAfter};
 ghost use Rattle.growth.specs.Growth.{addLeaf, addRoot};
 ghost use Rattle.replies.specs.Reply.{reply};
@@ -30,8 +31,8 @@ fn keep_made(
 ) -> u16
     requires { ⌜ length (now tree) ≡ treeBytes ⌝ }
     requires { ⌜ Fits treeRows (partsOf (now fields) (now numbers) (now levels) (now ancestors)) ⌝ }
-    ensures answer { λ r. ⌜ reply r (now (tree .exit)) ≡ madeBytes (now (tree .entry)) made (partsOf (now (fields .entry)) (now (numbers .entry)) (now (levels .entry)) (now (ancestors .entry))) ⌝ }
-    ensures held { λ _. ⌜ MadeHeld (now (tree .exit)) made (partsOf (now (fields .entry)) (now (numbers .entry)) (now (levels .entry)) (now (ancestors .entry))) ⌝ }
+    ensures answer { λ r. ⌜ reply r (now (tree .exit)) ≡ madeBytes (now (tree .entry)) (emptyOf made) (partsOf (now (fields .entry)) (now (numbers .entry)) (now (levels .entry)) (now (ancestors .entry))) ⌝ }
+    ensures held { λ _. ⌜ MadeHeld (now (tree .exit)) (emptyOf made) (partsOf (now (fields .entry)) (now (numbers .entry)) (now (levels .entry)) (now (ancestors .entry))) ⌝ }
 {
     match made {
         Made::Empty(empty) => {

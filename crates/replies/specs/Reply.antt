@@ -5,16 +5,14 @@ use lib.IntN.{ℤ, pos}
 use Rattle.laws.specs.Test.{bit}
 use Rattle.rows.specs.declared.refusal.Refusal.the-variants.{Misfit}
 use Rattle.rows.specs.Refusal.{numberOf}
-use Rattle.set_up.specs.declared.Made.{Made}
-use Rattle.set_up.specs.declared.Made.the-variants.{Empty, Refused as NotMade}
+use Rattle.set_up.specs.Outcome.{Outcome as SetUpOutcome, refusal as notMade, empty}
 use Rattle.growth.specs.declared.Grown.{Grown}
 use Rattle.growth.specs.declared.Grown.the-variants.{Node, Refused as NotGrown}
 use Rattle.link.specs.declared.Linked.{Linked}
 use Rattle.link.specs.declared.Linked.the-variants.{Under, Refused as NotLinked}
 use Rattle.query.specs.Outcome.{Outcome as QuestionOutcome, refusal as noAnswer, answer}
 use Rattle.alike.specs.Outcome.{Outcome as AlikeOutcome, refusal as noValue, value}
-use Rattle.inspect.specs.declared.Inspected.{Inspected}
-use Rattle.inspect.specs.declared.Inspected.the-variants.{Passes, Refused as NotInspected}
+use Rattle.inspect.specs.Outcome.{Outcome as InspectionOutcome, refusal as notInspected, passes}
 
 pub record Reply (A : Type 0) : Type 0 where
   pub number : ℕ
@@ -28,9 +26,9 @@ abbrev pub misfit : {A : Type 0} → List A → Reply A
 misfit out = reply (numberOf Misfit) out
 
 -- the count
-abbrev pub madeReply : List ℕ → Made → Reply ℕ
-madeReply out (Empty s) = reply 0 (s .count ∷ [])
-madeReply out (NotMade r) = reply (numberOf r) out
+abbrev pub madeReply : List ℕ → SetUpOutcome → Reply ℕ
+madeReply out (notMade n) = reply n out
+madeReply out (empty c) = reply 0 (c ∷ [])
 
 -- count, the new node, and the rows renumbered
 abbrev pub grownReply : List ℕ → Grown → Reply ℕ
@@ -53,6 +51,6 @@ alikeReply out (noValue n) = reply n out
 alikeReply out (value b) = reply 0 (b ∷ [])
 
 -- 1 or 0
-abbrev pub inspectionReply : List ℕ → Inspected → Reply ℕ
-inspectionReply out (Passes b) = reply 0 (bit b ∷ [])
-inspectionReply out (NotInspected r) = reply (numberOf r) out
+abbrev pub inspectionReply : List ℕ → InspectionOutcome → Reply ℕ
+inspectionReply out (notInspected n) = reply n out
+inspectionReply out (passes b) = reply 0 (bit b ∷ [])

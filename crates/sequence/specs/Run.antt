@@ -17,8 +17,7 @@ use Rattle.query.specs.Outcome.{Outcome as QuestionOutcome, refusal as noAnswer
 use Rattle.query.specs.Question.{question as ask}
 use Rattle.alike.specs.Outcome.{Outcome as AlikeOutcome, refusal as noValue, value}
 use Rattle.alike.specs.Alike.{alike as compare}
-use Rattle.inspect.specs.declared.Inspected.{Inspected}
-use Rattle.inspect.specs.declared.Inspected.the-variants.{Passes, Refused as NotInspected}
+use Rattle.inspect.specs.Outcome.{Outcome as InspectionOutcome, refusal as notInspected, passes}
 use Rattle.inspect.specs.Inspection.{inspection as inspect}
 use Rattle.sequence.specs.Calls.{Call, first, leaf, root, rootOver, link, question, alike, inspection, Reply, refused, grown, linked, answered, same, inspected}
 
@@ -72,9 +71,9 @@ abbrev pub alikeReply : AlikeOutcome → Reply
 alikeReply (noValue n) = refused n
 alikeReply (value b) = same b
 
-abbrev pub inspectionReply : Inspected → Reply
-inspectionReply (Passes b) = inspected b
-inspectionReply (NotInspected r) = refused (numberOf r)
+abbrev pub inspectionReply : InspectionOutcome → Reply
+inspectionReply (notInspected n) = refused n
+inspectionReply (passes b) = inspected b
 
 -- one call
 unfoldable pub step : Fast → Call → Turn
