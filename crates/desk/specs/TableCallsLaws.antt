@@ -12,11 +12,12 @@ use Rattle.rows.specs.Row.{Parts}
 use Rattle.rows.specs.Refusal.{numberOf}
 use Rattle.set_up.specs.Outcome.{Outcome as SetUpOutcome}
 use Rattle.set_up.specs.Blank.{setUp, partsAfter}
-use Rattle.growth.specs.declared.Grown.{Grown}
-use Rattle.growth.specs.Growth.{Outcome as GrowthOutcome}
+use Rattle.growth.specs.Outcome.{Outcome as GrowthOutcome}
+use Rattle.growth.specs.Growth.{Result as Growth}
 use Rattle.growth.specs.Growth as growth
 use Rattle.link.specs.declared.Linked.{Linked}
 use Rattle.link.specs.declared.Linked.the-variants.{Under, Refused as NotLinked}
+use Rattle.link.specs.Outcome.{outcomeOf as linkOf}
 use Rattle.link.specs.Link as link
 use Rattle.query.specs.Outcome.{Outcome as QuestionOutcome}
 use Rattle.query.specs.Question.{question}
@@ -44,7 +45,7 @@ module _ (t : Parts) (out : List ℕ) {r : ℕ} where
   unfolding setUpCall
   set-up-misfit h e = rw h (off-length 1 out _ (outcome t (misfit out)) e)
 
-  pub growth-misfit : (o : GrowthOutcome) → r ≡ 3 → length out ≢ 3 → outcome t (reply r out) ≡ growthCall t out o
+  pub growth-misfit : (o : Growth) → r ≡ 3 → length out ≢ 3 → outcome t (reply r out) ≡ growthCall t out o
   unfolding growthCall
   growth-misfit o h e = rw h (off-length 3 out _ (outcome t (misfit out)) e)
 
@@ -53,7 +54,7 @@ module _ (t u : Parts) (out after : List ℕ) {r : ℕ} where
   unfolding setUpCall
   set-up-served m e a b h = rw (h, a, b) (on-length 1 out (outcome (partsAfter t) (madeReply out (setUp t))) _ e)
 
-  pub growth-served : (g : Grown) (o : GrowthOutcome) → length out ≡ 3 → reply r after ≡ grownReply out g → growth.outcome u g ≡ o → outcome u (reply r after) ≡ growthCall t out o
+  pub growth-served : (g : GrowthOutcome) (o : Growth) → length out ≡ 3 → reply r after ≡ grownReply out g → growth.result u g ≡ o → outcome u (reply r after) ≡ growthCall t out o
   unfolding growthCall
   growth-served g o e h a = rw (h, ← a) (on-length 3 out (outcome u (grownReply out g)) _ e)
 
@@ -62,17 +63,17 @@ module _ (t : Parts) (out scratch : List ℕ) (s : State) (x v door : ℕ) {r : 
   unfolding linkCall
   link-misfit h e = record { outcome = rw h (off-length 1 out _ (outcome t (misfit out)) e); unchanged = λ _. refl }
 
-  pub link-served : (u : Parts) (after left : List ℕ) (l : Linked) → length out ≡ 1 → link.LinkCall t u scratch left s x v door l → reply r after ≡ linkReply out l
+  pub link-served : (u : Parts) (after left : List ℕ) (l : Linked) → length out ≡ 1 → link.LinkCall t u scratch left s x v door l → reply r after ≡ linkReply out (linkOf l)
       → LinkCall t out scratch s x v door left (outcome u (reply r after))
   unfolding linkCall
   link-served u after left l e q h = record {
-    outcome = rw (h, ← q .outcome) (on-length 1 out (outcome u (linkReply out l)) _ e);
+    outcome = rw (h, ← q .outcome) (on-length 1 out (outcome u (linkReply out (linkOf l))) _ e);
     unchanged = go l q h;
   }
     where
-      go : (l : Linked) → link.LinkCall t u scratch left s x v door l → reply r after ≡ linkReply out l → 0 < r → left ≡ scratch
+      go : (l : Linked) → link.LinkCall t u scratch left s x v door l → reply r after ≡ linkReply out (linkOf l) → 0 < r → left ≡ scratch
       go (Under j) q h p = let z : r ≡ 0 = ap (λ (p : Reply ℕ). p .number) h in absurd (omega arith)
-      go (NotLinked n) q h p = q .unchanged n refl
+      go (NotLinked n) q h p = q .unchanged (numberOf n) refl
 
 -- Calls that only read
 

@@ -7,9 +7,8 @@ use Rattle.rows.specs.declared.state.State.{State}
 use Rattle.rows.specs.Row.{Parts}
 use Rattle.set_up.specs.Outcome.{Outcome as SetUpOutcome, refusal as notMade, empty}
 use Rattle.set_up.specs.Blank.{setUp, partsAfter}
-use Rattle.growth.specs.declared.Grown.{Grown}
-use Rattle.growth.specs.declared.Grown.the-variants.{Node, Refused as NotGrown}
-use Rattle.growth.specs.Growth.{Outcome as GrowthOutcome, addLeaf, addRoot}
+use Rattle.growth.specs.Outcome.{Outcome as GrowthOutcome, refusal as notGrown, node}
+use Rattle.growth.specs.Growth.{Result as Growth, addLeaf, addRoot}
 use Rattle.query.specs.Question.{question}
 use Rattle.bytes_tree.specs.Tree.{treeRows, treeBytes, stateIn, partsIn, encoded}
 use Rattle.replies.specs.Reply.{Reply, reply, misfit}
@@ -42,24 +41,24 @@ unfoldable pub setUpTree : List ℕ → Reply ℕ
 setUpTree b = onLength treeBytes b (madeBytes b (setUp (partsIn b)) (partsAfter (partsIn b))) (misfit b)
 
 -- the tree after a growth that left these parts: as it was on a refusal
-abbrev pub treeAfter : List ℕ → Parts → Grown → List ℕ
-treeAfter b t (Node g) = encoded (g .state) t
-treeAfter b t (NotGrown r) = b
+abbrev pub treeAfter : List ℕ → Parts → GrowthOutcome → List ℕ
+treeAfter b t (notGrown n) = b
+treeAfter b t (node c n k) = encoded (stateOf c) t
 
 -- and what they hold after a growth that was served
-abbrev pub GrownHeld : List ℕ → Parts → Grown → Type 0
-GrownHeld b t (Node g) = Held b (g .state) t
-GrownHeld b t (NotGrown r) = Unit {0}
+abbrev pub GrownHeld : List ℕ → Parts → GrowthOutcome → Type 0
+GrownHeld b t (notGrown n) = Unit {0}
+GrownHeld b t (node c n k) = Held b (stateOf c) t
 
-abbrev pub GrowthHeld : List ℕ → GrowthOutcome → Type 0
-GrowthHeld b g = GrownHeld b (g .parts) (g .grown)
+abbrev pub GrowthHeld : List ℕ → Growth → Type 0
+GrowthHeld b g = GrownHeld b (g .parts) (g .outcome)
 
 -- a growth's reply and tree
-abbrev pub afterGrowth : List ℕ → List ℕ → GrowthOutcome → Outcome
-afterGrowth b out g = outcome (treeAfter b (g .parts) (g .grown)) (grownBytes out (g .grown))
+abbrev pub afterGrowth : List ℕ → List ℕ → Growth → Outcome
+afterGrowth b out g = outcome (treeAfter b (g .parts) (g .outcome)) (grownBytes out (g .outcome))
 
 -- a growth, where the tree and the out slice have their lengths
-abbrev pub onLengths : List ℕ → List ℕ → GrowthOutcome → Outcome
+abbrev pub onLengths : List ℕ → List ℕ → Growth → Outcome
 onLengths b out g = onLength treeBytes b (onLength 4 out (afterGrowth b out g) (outcome b (misfit out))) (outcome b (misfit out))
 
 unfoldable pub leafTree : List ℕ → List ℕ → ℕ → ℕ → Outcome

@@ -14,6 +14,8 @@ ghost use lib.IntN.{pos};
 ghost use lib.ListN.{length};
 ghost use Rattle.laws.specs.Test.{bit};
 ghost use Rattle.set_up.specs.Outcome.{outcomeOf as emptyOf};
+ghost use Rattle.growth.specs.Outcome.{outcomeOf as growthOf};
+ghost use Rattle.link.specs.Outcome.{outcomeOf as linkOf};
 ghost use Rattle.query.specs.Outcome.{outcomeOf as answerOf};
 ghost use Rattle.alike.specs.Outcome.{outcomeOf as comparisonOf};
 ghost use Rattle.inspect.specs.Outcome.{outcomeOf as inspectionOf};
@@ -81,7 +83,7 @@ pub fn reply_made(made: Made, out: &mut [u16]) -> u16
 
 pub fn reply_grown(grown: Grown, out: &mut [u16]) -> u16
     requires { ⌜ length (now out) ≡ 3 ⌝ }
-    ensures { λ r. ⌜ reply r (now (out .exit)) ≡ grownReply (now (out .entry)) grown ⌝ }
+    ensures { λ r. ⌜ reply r (now (out .exit)) ≡ grownReply (now (out .entry)) (growthOf grown) ⌝ }
 {
     match grown {
         Grown::Node(g) => {
@@ -95,7 +97,7 @@ pub fn reply_grown(grown: Grown, out: &mut [u16]) -> u16
 
 pub fn reply_linked(linked: Linked, out: &mut [u32]) -> u16
     requires { ⌜ length (now out) ≡ 1 ⌝ }
-    ensures { λ r. ⌜ reply r (now (out .exit)) ≡ linkReply (now (out .entry)) linked ⌝ }
+    ensures { λ r. ⌜ reply r (now (out .exit)) ≡ linkReply (now (out .entry)) (linkOf linked) ⌝ }
 {
     match linked {
         Linked::Under(l) => {

@@ -11,11 +11,11 @@ use Rattle.rows.specs.Table.{Table, label}
 use Rattle.rows.specs.PlainTree.{plain}
 use Rattle.rows.specs.CapacityLaws.{fits-told}
 use Rattle.rows.specs.StoredTree.{labelLimit}
-use Rattle.growth.specs.declared.Grown.{Grown}
 use Rattle.growth.specs.declared.plan.Planned.{Planned}
 use Rattle.growth.specs.declared.plan.Planned.the-variants.{Refuse}
 use Rattle.growth.specs.Plan.{isLabel}
-use Rattle.growth.specs.Growth.{Outcome, grownBy}
+use Rattle.growth.specs.Outcome.{Outcome}
+use Rattle.growth.specs.Growth.{Result, grownBy}
 use Rattle.growth_laws.specs.Growth.{Growth}
 use Rattle.growth_exact.specs.GrowthExact.{GrownExactly, tableGrown}
 use Rattle.growth_exact.specs.FirstExact.{StartedExactly}
@@ -46,9 +46,9 @@ module _ {c : ℕ} {f : Fast} {p : PlainList} {total joinings : ℕ} (s : Stands
     pub shows : Shows (plain d) (label d) p′
     pub count : countOf p′ ≡ suc (countOf p)
 
-  module _ (o : Outcome) where
+  module _ (o : Result) where
     -- the turn that a growth takes
-    abbrev turn : Grown → Turn
+    abbrev turn : Outcome → Turn
     turn y = record { reply = grownReply y; after = record { parts = o .parts; state = stateAfter (f .state) y } }
 
     pub grown-step : {q : Call} {g : Growth} {p′ : PlainList} → GrownExactly c (f .parts) (f .state) g o → Asks (tableIn f) q g
