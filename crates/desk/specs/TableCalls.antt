@@ -9,8 +9,8 @@ use Rattle.laws.specs.Test.{pick}
 use Rattle.rows.specs.declared.state.State.{State}
 use Rattle.rows.specs.Row.{Parts}
 use Rattle.set_up.specs.Blank.{setUp, partsAfter}
-use Rattle.growth.specs.Growth.{Outcome as GrowthOutcome, addFirst, addLeaf, addOver}
-use Rattle.link.specs.Link.{Outcome as LinkOutcome, linkBy}
+use Rattle.growth.specs.Growth.{Result as Growth, addFirst, addLeaf, addOver}
+use Rattle.link.specs.Link.{Result as Link, linkBy}
 use Rattle.query.specs.Question.{question}
 use Rattle.alike.specs.Alike.{alike}
 use Rattle.inspect.specs.Inspection.{inspection}
@@ -36,8 +36,8 @@ unfoldable pub setUpCall : Parts → List ℕ → Outcome
 setUpCall t out = onLength 1 out (outcome (partsAfter t) (madeReply out (setUp t))) (outcome t (misfit out))
 
 -- a growth's reply and parts
-unfoldable pub growthCall : Parts → List ℕ → GrowthOutcome → Outcome
-growthCall t out g = onLength 3 out (outcome (g .parts) (grownReply out (g .grown))) (outcome t (misfit out))
+unfoldable pub growthCall : Parts → List ℕ → Growth → Outcome
+growthCall t out g = onLength 3 out (outcome (g .parts) (grownReply out (g .outcome))) (outcome t (misfit out))
 
 -- of the scratch only its length counts, here and below
 abbrev pub firstCall : Parts → List ℕ → ℕ → State → Outcome
@@ -50,8 +50,8 @@ abbrev pub rootCall : Parts → List ℕ → ℕ → State → ℕ → Outcome
 rootCall t out scratch s x = growthCall t out (addOver t scratch s x)
 
 -- a link's reply and parts
-abbrev pub afterLink : Parts → List ℕ → LinkOutcome → Outcome
-afterLink t out l = onLength 1 out (outcome (l .parts) (linkReply out (l .linked))) (outcome t (misfit out))
+abbrev pub afterLink : Parts → List ℕ → Link → Outcome
+afterLink t out l = onLength 1 out (outcome (l .parts) (linkReply out (l .outcome))) (outcome t (misfit out))
 
 unfoldable pub linkCall : Parts → List ℕ → ℕ → State → ℕ → ℕ → ℕ → Outcome
 linkCall t out scratch s x v door = afterLink t out (linkBy t scratch s x v door)

@@ -1,38 +1,32 @@
 -- The calls of the table form, by whether the out slice has its length, from what the call of the engine and the reply left.
-use mathlib.Core.Path.{_≡_, refl, sym, ap, _∙_}
+use mathlib.Core.Path.{_≡_, refl, ap}
 use mathlib.Core.Logic.{_≢_}
 use mathlib.Core.List.{List}
-use mathlib.Core.Bool.{Bool, true, false}
 use Prim.Native.Nat.{ℕ, _<_}
 use native.Mathlib.Omega.{arith}
 use lib.IntN.{ℤ}
 use lib.ListN.{length}
-use lib.Dec.{eqb}
-use Rattle.laws.specs.Test.{says-eqb, says-true, says-false, pick}
+use Rattle.laws.specs.Test.{says-eqb, says-true, says-false}
 use Rattle.rows.specs.declared.state.State.{State}
 use Rattle.rows.specs.Row.{Parts}
-use Rattle.rows.specs.Capacity.{capacityOf}
-use Rattle.rows.specs.Table.{tableOf}
-use Rattle.rows.specs.declared.capacity.Fit.{Fit}
-use Rattle.rows.specs.declared.capacity.Fit.the-variants.{Capacity, Misfit as Astray}
-use Rattle.rows.specs.declared.refusal.Refusal.{Refusal}
-use Rattle.rows.specs.declared.refusal.Refusal.the-variants.{Misfit}
-use Rattle.set_up.specs.declared.Made.{Made}
+use Rattle.rows.specs.Refusal.{numberOf}
+use Rattle.set_up.specs.Outcome.{Outcome as SetUpOutcome}
 use Rattle.set_up.specs.Blank.{setUp, partsAfter}
-use Rattle.growth.specs.declared.Grown.{Grown}
-use Rattle.growth.specs.Growth.{Outcome as GrowthOutcome}
+use Rattle.growth.specs.Outcome.{Outcome as GrowthOutcome}
+use Rattle.growth.specs.Growth.{Result as Growth}
 use Rattle.growth.specs.Growth as growth
 use Rattle.link.specs.declared.Linked.{Linked}
 use Rattle.link.specs.declared.Linked.the-variants.{Under, Refused as NotLinked}
+use Rattle.link.specs.Outcome.{outcomeOf as linkOf}
 use Rattle.link.specs.Link as link
 use Rattle.query.specs.Outcome.{Outcome as QuestionOutcome}
 use Rattle.query.specs.Question.{question}
 use Rattle.alike.specs.Outcome.{Outcome as AlikeOutcome}
 use Rattle.alike.specs.Alike.{alike}
-use Rattle.inspect_laws.specs.Inspects.{inspects}
 use Rattle.inspect.specs.declared.Inspected.{Inspected}
 use Rattle.inspect.specs.declared.Inspected.the-variants.{Passes, Refused}
-use Rattle.inspect.specs.Inspection.{inspection, inspectionIn, Inspection}
+use Rattle.inspect.specs.Outcome.{outcomeOf as inspectionOf}
+use Rattle.inspect.specs.Inspection.{inspection, Inspection}
 use Rattle.replies.specs.Reply.{Reply, reply, misfit, madeReply, grownReply, linkReply, questionReply, alikeReply, inspectionReply}
 use Rattle.desk.specs.TableCalls.{onLength, outcome, setUpCall, growthCall, linkCall, LinkCall, questionCall, alikeCall, inspectionCall, InspectionCall}
 
@@ -51,16 +45,16 @@ module _ (t : Parts) (out : List ℕ) {r : ℕ} where
   unfolding setUpCall
   set-up-misfit h e = rw h (off-length 1 out _ (outcome t (misfit out)) e)
 
-  pub growth-misfit : (o : GrowthOutcome) → r ≡ 3 → length out ≢ 3 → outcome t (reply r out) ≡ growthCall t out o
+  pub growth-misfit : (o : Growth) → r ≡ 3 → length out ≢ 3 → outcome t (reply r out) ≡ growthCall t out o
   unfolding growthCall
   growth-misfit o h e = rw h (off-length 3 out _ (outcome t (misfit out)) e)
 
 module _ (t u : Parts) (out after : List ℕ) {r : ℕ} where
-  pub set-up-served : (m : Made) → length out ≡ 1 → m ≡ setUp t → u ≡ partsAfter t → reply r after ≡ madeReply out m → outcome u (reply r after) ≡ setUpCall t out
+  pub set-up-served : (m : SetUpOutcome) → length out ≡ 1 → m ≡ setUp t → u ≡ partsAfter t → reply r after ≡ madeReply out m → outcome u (reply r after) ≡ setUpCall t out
   unfolding setUpCall
   set-up-served m e a b h = rw (h, a, b) (on-length 1 out (outcome (partsAfter t) (madeReply out (setUp t))) _ e)
 
-  pub growth-served : (g : Grown) (o : GrowthOutcome) → length out ≡ 3 → reply r after ≡ grownReply out g → growth.outcome u g ≡ o → outcome u (reply r after) ≡ growthCall t out o
+  pub growth-served : (g : GrowthOutcome) (o : Growth) → length out ≡ 3 → reply r after ≡ grownReply out g → growth.result u g ≡ o → outcome u (reply r after) ≡ growthCall t out o
   unfolding growthCall
   growth-served g o e h a = rw (h, ← a) (on-length 3 out (outcome u (grownReply out g)) _ e)
 
@@ -69,32 +63,17 @@ module _ (t : Parts) (out scratch : List ℕ) (s : State) (x v door : ℕ) {r : 
   unfolding linkCall
   link-misfit h e = record { outcome = rw h (off-length 1 out _ (outcome t (misfit out)) e); unchanged = λ _. refl }
 
-  pub link-served : (u : Parts) (after left : List ℕ) (l : Linked) → length out ≡ 1 → link.LinkCall t u scratch left s x v door l → reply r after ≡ linkReply out l
+  pub link-served : (u : Parts) (after left : List ℕ) (l : Linked) → length out ≡ 1 → link.LinkCall t u scratch left s x v door l → reply r after ≡ linkReply out (linkOf l)
       → LinkCall t out scratch s x v door left (outcome u (reply r after))
   unfolding linkCall
   link-served u after left l e q h = record {
-    outcome = rw (h, ← q .outcome) (on-length 1 out (outcome u (linkReply out l)) _ e);
+    outcome = rw (h, ← q .outcome) (on-length 1 out (outcome u (linkReply out (linkOf l))) _ e);
     unchanged = go l q h;
   }
     where
-      go : (l : Linked) → link.LinkCall t u scratch left s x v door l → reply r after ≡ linkReply out l → 0 < r → left ≡ scratch
+      go : (l : Linked) → link.LinkCall t u scratch left s x v door l → reply r after ≡ linkReply out (linkOf l) → 0 < r → left ≡ scratch
       go (Under j) q h p = let z : r ≡ 0 = ap (λ (p : Reply ℕ). p .number) h in absurd (omega arith)
-      go (NotLinked n) q h p = q .unchanged n refl
-
--- inspection refuses only a misfit
-pub inspection-refused : (t : Parts) (cells : ℕ) (s : State) (r : Refusal) → inspection t cells s ≡ Refused r → inspection t cells s ≡ Refused Misfit
-unfolding inspection
-inspection-refused t cells s r = go (capacityOf t)
-  where
-    -- by whether the scratch fits
-    by : (c : ℕ) (b : Bool) → pick b (Passes (inspects c (tableOf t (s .count)))) (Refused Misfit) ≡ Refused r
-        → pick b (Passes (inspects c (tableOf t (s .count)))) (Refused Misfit) ≡ Refused Misfit
-    by c true e = let z : _≡_ {A = ℕ} 0 1 = cc in absurd (omega arith)
-    by c false e = refl
-
-    go : (f : Fit) → inspectionIn f t cells s ≡ Refused r → inspectionIn f t cells s ≡ Refused Misfit
-    go (Capacity c) e = by c (eqb cells c) e
-    go Astray e = refl
+      go (NotLinked n) q h p = q .unchanged (numberOf n) refl
 
 -- Calls that only read
 
@@ -122,13 +101,13 @@ module _ (t : Parts) (s : State) {r : ℕ} where
     unfolding inspectionCall
     inspection-misfit h e = record { replied = rw h (off-length 1 out _ (misfit out) e); unchanged = λ _. refl }
 
-    pub inspection-served : (after left : List ℕ) (i : Inspected) → length out ≡ 1 → Inspection t scratch s left i → reply r after ≡ inspectionReply out i → InspectionCall t out scratch s left (reply r after)
+    pub inspection-served : (after left : List ℕ) (i : Inspected) → length out ≡ 1 → Inspection t scratch s left i → reply r after ≡ inspectionReply out (inspectionOf i) → InspectionCall t out scratch s left (reply r after)
     unfolding inspectionCall
     inspection-served after left i e q h = record {
       replied = rw (h, q .outcome) (on-length 1 out (inspectionReply out (inspection t (length scratch) s)) _ e);
       unchanged = go i q h;
     }
       where
-        go : (i : Inspected) → Inspection t scratch s left i → reply r after ≡ inspectionReply out i → 0 < r → left ≡ scratch
+        go : (i : Inspected) → Inspection t scratch s left i → reply r after ≡ inspectionReply out (inspectionOf i) → 0 < r → left ≡ scratch
         go (Passes b) q h l = let z : r ≡ 0 = ap (λ (p : Reply ℕ). p .number) h in absurd (omega arith)
-        go (Refused n) q h l = q .unchanged (q .outcome ∙ inspection-refused t (length scratch) s n (sym (q .outcome)))
+        go (Refused n) q h l = q .unchanged (numberOf n) refl

@@ -8,10 +8,10 @@ use lib.ListN.{length}
 use Rattle.rows.specs.declared.state.State.{State}
 use Rattle.rows.specs.Row.{Parts}
 use Rattle.rows.specs.Capacity.{Fits}
-use Rattle.set_up.specs.declared.Made.{Made}
+use Rattle.set_up.specs.Outcome.{Outcome as SetUpOutcome}
 use Rattle.set_up.specs.Blank.{setUp, partsAfter}
-use Rattle.growth.specs.declared.Grown.{Grown}
-use Rattle.growth.specs.Growth.{Outcome as GrowthOutcome, addLeaf, addRoot}
+use Rattle.growth.specs.Outcome.{Outcome as GrowthOutcome}
+use Rattle.growth.specs.Growth.{Result as Growth, addLeaf, addRoot}
 use Rattle.growth.specs.Growth as growth
 use Rattle.query.specs.Outcome.{Outcome as QuestionOutcome}
 use Rattle.query.specs.Question.{question}
@@ -50,12 +50,12 @@ module _ (b : List ℕ) {r : ℕ} where
   unfolding setUpTree
   set-up-misfit h e = rw h (off-length treeBytes b _ (misfit b) e)
 
-  pub set-up-kept : (after : List ℕ) (u t : Parts) (m : Made) → length b ≡ treeBytes → u ≡ partsIn b → m ≡ setUp u → t ≡ partsAfter u
+  pub set-up-kept : (after : List ℕ) (u t : Parts) (m : SetUpOutcome) → length b ≡ treeBytes → u ≡ partsIn b → m ≡ setUp u → t ≡ partsAfter u
       → reply r after ≡ madeBytes b m t → reply r after ≡ setUpTree b
   unfolding setUpTree
   set-up-kept after u t m e i j k h = rw (h, k, j, i) (on-length treeBytes b (madeBytes b (setUp (partsIn b)) (partsAfter (partsIn b))) (misfit b) e)
 
-pub set-up-held : (b after : List ℕ) (u t : Parts) (m : Made) → u ≡ partsIn b → m ≡ setUp u → t ≡ partsAfter u
+pub set-up-held : (b after : List ℕ) (u t : Parts) (m : SetUpOutcome) → u ≡ partsIn b → m ≡ setUp u → t ≡ partsAfter u
     → MadeHeld after m t → MadeHeld after (setUp (partsIn b)) (partsAfter (partsIn b))
 set-up-held b after u t m i j k h =
     let x : m ≡ setUp (partsIn b) = j ∙ ap setUp i in
@@ -64,22 +64,22 @@ set-up-held b after u t m i j k h =
 
 -- Growth
 
-module _ (b after : List ℕ) (u t : Parts) (s : State) (g : Grown) (i : u ≡ partsIn b) (j : s ≡ stateIn b) (h : GrownHeld after t g) where
-  pub leaf-held : (parent label : ℕ) → growth.outcome t g ≡ addLeaf u treeRows s parent label → GrowthHeld after (addLeaf (partsIn b) treeRows (stateIn b) parent label)
+module _ (b after : List ℕ) (u t : Parts) (s : State) (g : GrowthOutcome) (i : u ≡ partsIn b) (j : s ≡ stateIn b) (h : GrownHeld after t g) where
+  pub leaf-held : (parent label : ℕ) → growth.result t g ≡ addLeaf u treeRows s parent label → GrowthHeld after (addLeaf (partsIn b) treeRows (stateIn b) parent label)
   leaf-held parent label q =
-      let z : growth.outcome t g ≡ addLeaf (partsIn b) treeRows (stateIn b) parent label = q ∙ rw (i, j) in
-      subst (λ (o : GrowthOutcome). GrowthHeld after o) z h
+      let z : growth.result t g ≡ addLeaf (partsIn b) treeRows (stateIn b) parent label = q ∙ rw (i, j) in
+      subst (λ (o : Growth). GrowthHeld after o) z h
 
-  pub root-held : growth.outcome t g ≡ addRoot u treeRows s → GrowthHeld after (addRoot (partsIn b) treeRows (stateIn b))
+  pub root-held : growth.result t g ≡ addRoot u treeRows s → GrowthHeld after (addRoot (partsIn b) treeRows (stateIn b))
   root-held q =
-      let z : growth.outcome t g ≡ addRoot (partsIn b) treeRows (stateIn b) = q ∙ rw (i, j) in
-      subst (λ (o : GrowthOutcome). GrowthHeld after o) z h
+      let z : growth.result t g ≡ addRoot (partsIn b) treeRows (stateIn b) = q ∙ rw (i, j) in
+      subst (λ (o : Growth). GrowthHeld after o) z h
 
 module _ (b out : List ℕ) {r : ℕ} where
-  grown-tree-misfit : (o : GrowthOutcome) → r ≡ 3 → length b ≢ treeBytes → outcome b (reply r out) ≡ onLengths b out o
+  grown-tree-misfit : (o : Growth) → r ≡ 3 → length b ≢ treeBytes → outcome b (reply r out) ≡ onLengths b out o
   grown-tree-misfit o h e = rw h (tree-misfit b out 4 (afterGrowth b out o) (outcome b (misfit out)) e)
 
-  grown-out-misfit : (o : GrowthOutcome) → r ≡ 3 → length b ≡ treeBytes → length out ≢ 4 → outcome b (reply r out) ≡ onLengths b out o
+  grown-out-misfit : (o : Growth) → r ≡ 3 → length b ≡ treeBytes → length out ≢ 4 → outcome b (reply r out) ≡ onLengths b out o
   grown-out-misfit o h e f = rw h (out-misfit b out 4 (afterGrowth b out o) (outcome b (misfit out)) e f)
 
   pub leaf-tree-misfit : (parent label : ℕ) → r ≡ 3 → length b ≢ treeBytes → outcome b (reply r out) ≡ leafTree b out parent label
@@ -98,18 +98,18 @@ module _ (b out : List ℕ) {r : ℕ} where
   unfolding rootTree
   root-out-misfit = grown-out-misfit (addRoot (partsIn b) treeRows (stateIn b))
 
-  module _ (after outAfter : List ℕ) (u t : Parts) (s : State) (g : Grown) (e : length b ≡ treeBytes) (f : length out ≡ 4) (i : u ≡ partsIn b) (j : s ≡ stateIn b)
+  module _ (after outAfter : List ℕ) (u t : Parts) (s : State) (g : GrowthOutcome) (e : length b ≡ treeBytes) (f : length out ≡ 4) (i : u ≡ partsIn b) (j : s ≡ stateIn b)
       (k : after ≡ treeAfter b t g) (h : reply r outAfter ≡ grownBytes out g) where
-    kept : outcome after (reply r outAfter) ≡ onLengths b out (growth.outcome t g)
+    kept : outcome after (reply r outAfter) ≡ onLengths b out (growth.result t g)
     kept = rw (k, h) (both-fit b out 4 (outcome (treeAfter b t g) (grownBytes out g)) (outcome b (misfit out)) e f)
 
-    pub leaf-kept : (parent label : ℕ) → growth.outcome t g ≡ addLeaf u treeRows s parent label → outcome after (reply r outAfter) ≡ leafTree b out parent label
+    pub leaf-kept : (parent label : ℕ) → growth.result t g ≡ addLeaf u treeRows s parent label → outcome after (reply r outAfter) ≡ leafTree b out parent label
     unfolding leafTree
-    leaf-kept parent label q = let z : growth.outcome t g ≡ addLeaf (partsIn b) treeRows (stateIn b) parent label = q ∙ rw (i, j) in kept ∙ ap (onLengths b out) z
+    leaf-kept parent label q = let z : growth.result t g ≡ addLeaf (partsIn b) treeRows (stateIn b) parent label = q ∙ rw (i, j) in kept ∙ ap (onLengths b out) z
 
-    pub root-kept : growth.outcome t g ≡ addRoot u treeRows s → outcome after (reply r outAfter) ≡ rootTree b out
+    pub root-kept : growth.result t g ≡ addRoot u treeRows s → outcome after (reply r outAfter) ≡ rootTree b out
     unfolding rootTree
-    root-kept q = let z : growth.outcome t g ≡ addRoot (partsIn b) treeRows (stateIn b) = q ∙ rw (i, j) in kept ∙ ap (onLengths b out) z
+    root-kept q = let z : growth.result t g ≡ addRoot (partsIn b) treeRows (stateIn b) = q ∙ rw (i, j) in kept ∙ ap (onLengths b out) z
 
 -- The question
 

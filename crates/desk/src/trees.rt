@@ -14,7 +14,9 @@ ghost use lib.ListN.{length};
 ghost use Rattle.rows.specs.Row.{partsOf};
 ghost use Rattle.rows.specs.Capacity.{Fits};
 ghost use Rattle.bytes_tree.specs.Tree.{treeRows, treeBytes, stateIn, partsIn};
+ghost use Rattle.set_up.specs.Outcome.{outcomeOf as emptyOf};
 ghost use Rattle.set_up.specs.Blank.{setUp, partsAfter};
+ghost use Rattle.growth.specs.Outcome.{outcomeOf as growthOf};
 ghost use Rattle.growth.specs.Growth.{addLeaf, addRoot};
 ghost use Rattle.replies.specs.Reply.{reply};
 ghost use Rattle.desk.specs.TreeCalls.{outcome, madeBytes, MadeHeld, setUpTree, treeAfter, GrownHeld, GrowthHeld, leafTree, rootTree, questionTree};
@@ -30,8 +32,8 @@ fn keep_made(
 ) -> u16
     requires { ⌜ length (now tree) ≡ treeBytes ⌝ }
     requires { ⌜ Fits treeRows (partsOf (now fields) (now numbers) (now levels) (now ancestors)) ⌝ }
-    ensures answer { λ r. ⌜ reply r (now (tree .exit)) ≡ madeBytes (now (tree .entry)) made (partsOf (now (fields .entry)) (now (numbers .entry)) (now (levels .entry)) (now (ancestors .entry))) ⌝ }
-    ensures held { λ _. ⌜ MadeHeld (now (tree .exit)) made (partsOf (now (fields .entry)) (now (numbers .entry)) (now (levels .entry)) (now (ancestors .entry))) ⌝ }
+    ensures answer { λ r. ⌜ reply r (now (tree .exit)) ≡ madeBytes (now (tree .entry)) (emptyOf made) (partsOf (now (fields .entry)) (now (numbers .entry)) (now (levels .entry)) (now (ancestors .entry))) ⌝ }
+    ensures held { λ _. ⌜ MadeHeld (now (tree .exit)) (emptyOf made) (partsOf (now (fields .entry)) (now (numbers .entry)) (now (levels .entry)) (now (ancestors .entry))) ⌝ }
 {
     match made {
         Made::Empty(empty) => {
@@ -53,8 +55,8 @@ fn keep_grown(
 )
     requires { ⌜ length (now tree) ≡ treeBytes ⌝ }
     requires { ⌜ Fits treeRows (partsOf (now fields) (now numbers) (now levels) (now ancestors)) ⌝ }
-    ensures tree { λ _. ⌜ now (tree .exit) ≡ treeAfter (now (tree .entry)) (partsOf (now (fields .entry)) (now (numbers .entry)) (now (levels .entry)) (now (ancestors .entry))) grown ⌝ }
-    ensures held { λ _. ⌜ GrownHeld (now (tree .exit)) (partsOf (now (fields .entry)) (now (numbers .entry)) (now (levels .entry)) (now (ancestors .entry))) grown ⌝ }
+    ensures tree { λ _. ⌜ now (tree .exit) ≡ treeAfter (now (tree .entry)) (partsOf (now (fields .entry)) (now (numbers .entry)) (now (levels .entry)) (now (ancestors .entry))) (growthOf grown) ⌝ }
+    ensures held { λ _. ⌜ GrownHeld (now (tree .exit)) (partsOf (now (fields .entry)) (now (numbers .entry)) (now (levels .entry)) (now (ancestors .entry))) (growthOf grown) ⌝ }
 {
     match grown {
         Grown::Node(g) => {

@@ -6,8 +6,8 @@ use Prim.Native.Nat.{ℕ}
 use lib.ListN.{length}
 use Rattle.rows.specs.Row.{Parts, levelAt}
 use Rattle.rows.specs.declared.state.State.{State}
-use Rattle.growth.specs.declared.Grown.{Grown}
-use Rattle.growth.specs.Growth.{Outcome, outcome, addLeaf, addRoot}
+use Rattle.growth.specs.Outcome.{Outcome}
+use Rattle.growth.specs.Growth.{result, addLeaf, addRoot}
 use Rattle.query.specs.Outcome.{Outcome as QuestionOutcome, refusal as noAnswer, answer}
 use Rattle.query.specs.Question.{question as ask}
 use Rattle.alike.specs.Outcome.{Outcome as AlikeOutcome, refusal as noValue, value}
@@ -20,22 +20,22 @@ use Rattle.echo.specs.Printed.{printed, printedOf, letterOf, questionLet
 use Rattle.echo.specs.Report.{reportBy, report, fastOf, reportOf}
 
 -- what the code answers of a growth
-pub record OfGrowth (letter : ℕ) (t : Parts) (s : State) (g : Grown) (r : Served) : Type 0 where
+pub record OfGrowth (letter : ℕ) (t : Parts) (s : State) (g : Outcome) (r : Served) : Type 0 where
   pub shown : printedOf (r .shown) ≡ printed letter (levelAt (t .levels)) (grownReply g)
   pub rows : r .rows ≡ rowsIn (grownReply g)
   pub state : r .state ≡ stateAfter s g
 
-growth-report : (q : Call) (t : Parts) (s : State) (g : Grown) (r : Served) → OfGrowth (letterOf q) t s g r
-    → reportOf t r ≡ reportBy q (afterGrowth s (outcome t g))
+growth-report : (q : Call) (t : Parts) (s : State) (g : Outcome) (r : Served) → OfGrowth (letterOf q) t s g r
+    → reportOf t r ≡ reportBy q (afterGrowth s (result t g))
 growth-report q t s g r o = rw (o .shown, o .rows, o .state)
 
-module _ (t u : Parts) (s : State) (g : Grown) (r : Served) where
-  pub leaf-report : (v l : ℕ) (scratch : List ℕ) → outcome u g ≡ addLeaf t (length scratch) s v l → OfGrowth (letterOf (leaf v l scratch)) u s g r
+module _ (t u : Parts) (s : State) (g : Outcome) (r : Served) where
+  pub leaf-report : (v l : ℕ) (scratch : List ℕ) → result u g ≡ addLeaf t (length scratch) s v l → OfGrowth (letterOf (leaf v l scratch)) u s g r
       → reportOf u r ≡ report (fastOf t s) (leaf v l scratch)
   unfolding report step
   leaf-report v l scratch e o = rw (← e) (growth-report (leaf v l scratch) u s g r o)
 
-  pub root-report : (scratch : List ℕ) → outcome u g ≡ addRoot t (length scratch) s → OfGrowth (letterOf (root scratch)) u s g r
+  pub root-report : (scratch : List ℕ) → result u g ≡ addRoot t (length scratch) s → OfGrowth (letterOf (root scratch)) u s g r
       → reportOf u r ≡ report (fastOf t s) (root scratch)
   unfolding report step
   root-report scratch e o = rw (← e) (growth-report (root scratch) u s g r o)

@@ -16,6 +16,7 @@ use Rattle.rows.specs.Row.{Parts}
 use Rattle.rows.specs.Capacity.{Fits}
 use Rattle.set_up.specs.declared.Made.{Made}
 use Rattle.set_up.specs.declared.Made.the-variants.{Empty, Refused}
+use Rattle.set_up.specs.Outcome.{Outcome, refusal, empty, outcomeOf}
 use Rattle.set_up.specs.Blank.{setUp, partsAfter}
 use Rattle.set_up.specs.BlankLaws.{set-up-served}
 use Rattle.echo.specs.declared.turn.Reading.{Reading}
@@ -39,24 +40,24 @@ lent-fits =
 abbrev none-yet : State
 none-yet = record { count = 0 }
 
-lent-empty : setUp lent ≡ Empty none-yet
+lent-empty : setUp lent ≡ empty 0
 lent-empty = set-up-served lent rows lent-fits
 
-isEmpty : Made → Bool
-isEmpty (Empty s) = true
-isEmpty (Refused r) = false
+isEmpty : Outcome → Bool
+isEmpty (empty c) = true
+isEmpty (refusal n) = false
 
-stateIn : Made → State
-stateIn (Empty s) = s
-stateIn (Refused r) = none-yet
+countIn : Outcome → ℕ
+countIn (empty c) = c
+countIn (refusal n) = 0
 
-pub set-up-not-refused : (m : Made) (r : Refusal) → m ≡ setUp lent → m ≡ Refused r → ⊥
+pub set-up-not-refused : (m : Made) (r : Refusal) → outcomeOf m ≡ setUp lent → m ≡ Refused r → ⊥
 unfolding isEmpty
-set-up-not-refused m r e f = true≢false (ap isEmpty (sym lent-empty ∙ sym e ∙ f))
+set-up-not-refused m r e f = true≢false (ap isEmpty (sym lent-empty ∙ sym e ∙ ap outcomeOf f))
 
-pub set-up-state : (m : Made) (s : State) → m ≡ setUp lent → m ≡ Empty s → s ≡ none-yet
-unfolding stateIn
-set-up-state m s e f = ap stateIn (sym f ∙ e ∙ lent-empty)
+pub set-up-state : (m : Made) (s : State) → outcomeOf m ≡ setUp lent → m ≡ Empty s → s ≡ none-yet
+unfolding countIn
+set-up-state m s e f = ap (λ (c : ℕ). record { count = c }) (ap countIn (ap outcomeOf (sym f) ∙ e ∙ lent-empty))
 
 pub opens : (t : Parts) (s : State) → t ≡ partsAfter lent → s ≡ none-yet
     → sessionOf t (record { place = 0; ordinal = 1; total = 0; state = s; on = true }) ≡ opening

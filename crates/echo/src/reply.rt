@@ -8,6 +8,7 @@ ghost use mathlib.Core.Path.{_≡_};
 ghost use mathlib.Core.List.{[], _∷_};
 ghost use lib.IntN.{pos};
 ghost use Rattle.rows.specs.Row.{levelAt};
+ghost use Rattle.growth.specs.Outcome.{outcomeOf as growthOf};
 ghost use Rattle.query.specs.Outcome.{outcomeOf as answerOf};
 ghost use Rattle.alike.specs.Outcome.{outcomeOf as sameOf};
 ghost use Rattle.sequence.specs.Run.{grownReply, questionReply, alikeReply};
@@ -45,7 +46,7 @@ pub fn refused(n: u16) -> Shown
 
 // The new node, its level in the levels afterwards, and the rows renumbered.
 pub fn grown(letter: u8, levels: &[i32], g: Grown) -> Shown
-    ensures { λ r. ⌜ printedOf r ≡ printed letter (levelAt (now (levels .entry))) (grownReply g) ⌝ }
+    ensures { λ r. ⌜ printedOf r ≡ printed letter (levelAt (now (levels .entry))) (grownReply (growthOf g)) ⌝ }
 {
     match g {
         Grown::Refused(r) => refused(number_of(r)),

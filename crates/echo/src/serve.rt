@@ -11,6 +11,7 @@ use query::characteristic_ancestors;
 use rows::state::State;
 ghost use mathlib.Core.Path.{_≡_};
 ghost use Rattle.rows.specs.Row.{levelAt, partsOf};
+ghost use Rattle.growth.specs.Outcome.{outcomeOf as growthOf};
 ghost use Rattle.sequence.specs.Calls.{leaf, root, question, alike};
 ghost use Rattle.sequence.specs.Run.{grownReply, rowsIn, stateAfter};
 ghost use Rattle.echo.specs.Printed.{printed, printedOf};
@@ -25,9 +26,9 @@ pub struct Served {
 
 // The answer of a growth; `state` stands where it was refused.
 fn after_growth(letter: u8, levels: &[i32], state: State, g: Grown) -> Served
-    ensures shown { λ r. ⌜ printedOf (r .shown) ≡ printed letter (levelAt (now (levels .entry))) (grownReply g) ⌝ }
-    ensures rows { λ r. ⌜ r .rows ≡ rowsIn (grownReply g) ⌝ }
-    ensures state { λ r. ⌜ r .state ≡ stateAfter state g ⌝ }
+    ensures shown { λ r. ⌜ printedOf (r .shown) ≡ printed letter (levelAt (now (levels .entry))) (grownReply (growthOf g)) ⌝ }
+    ensures rows { λ r. ⌜ r .rows ≡ rowsIn (grownReply (growthOf g)) ⌝ }
+    ensures state { λ r. ⌜ r .state ≡ stateAfter state (growthOf g) ⌝ }
 {
     let shown = grown(letter, levels, g);
     match g {

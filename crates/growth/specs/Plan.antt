@@ -28,6 +28,7 @@ use Rattle.growth.specs.Good.{isGood}
 use Rattle.growth.specs.Level.{levelOf, onLevel}
 use Rattle.growth.specs.Chain.{topFrom, onTop}
 use Rattle.growth.specs.CheckWalk.{checkWalk}
+use Rattle.growth.specs.Copied.{copiesLinks}
 
 -- the leaf and its upper row -----------------------------------------------------------
 
@@ -72,10 +73,11 @@ abbrev pub provided : Bool → Refusal → Planned → Planned
 provided b r p = pick b p (Refuse r)
 
 -- of the leaf z under p whose chain has this top
-unfoldable pub plannedAt : List ℕ → List ℕ → List ℤ → ℕ → ℕ → ℕ → ℕ → ℕ → ℕ → ℤ → ℕ → ℕ → Planned
-plannedAt f m l n z p upper top depth level label tree =
+unfoldable pub plannedAt : List ℕ → List ℕ → List ℤ → List ℕ → ℕ → ℕ → ℕ → ℕ → ℕ → ℕ → ℤ → ℕ → ℕ → Planned
+plannedAt f m l a n z p upper top depth level label tree =
     provided (isSeated f m z (headOf f top z upper)) Corrupt
     (provided (isWhole f m l n (leafUnder f z p) (headOf f top z upper)) Corrupt
+    (provided (copiesLinks a n (headOf f top z upper .upper)) Corrupt
     (Grow (record {
       leaf = leafUnder f z p;
       upper = upper;
@@ -84,14 +86,14 @@ plannedAt f m l n z p upper top depth level label tree =
       label = label;
       head = headOf f top z upper;
       tree = tree;
-    })))
+    }))))
 
 -- of the row z as a leaf under p, at this level
-unfoldable pub plannedRow : List ℕ → List ℕ → List ℤ → ℕ → ℕ → ℕ → ℤ → ℕ → ℕ → Planned
-plannedRow f m l n z p level label tree =
+unfoldable pub plannedRow : List ℕ → List ℕ → List ℤ → List ℕ → ℕ → ℕ → ℕ → ℤ → ℕ → ℕ → Planned
+plannedRow f m l a n z p level label tree =
     provided (isGood f m l n p) Corrupt
     (onTop (topFrom n f m l n (upperFor f m l n p) none)
-    (λ top. plannedAt f m l n z p (upperFor f m l n p) top (oneMore (fieldAt f p depthPlace)) level label tree)
+    (λ top. plannedAt f m l a n z p (upperFor f m l n p) top (oneMore (fieldAt f p depthPlace)) level label tree)
     (Refuse Corrupt))
 
 -- the calls ----------------------------------------------------------------------------
@@ -109,7 +111,7 @@ leafWithin t c scratch s parent label =
     (provided (isStanding c s) Corrupt
     (provided (not (eqb (rootAt (t .fields) (t .ancestors) (s .count) parent) none)) Corrupt
     (onLevel (levelOf (levelAt (t .levels) parent +ℤ pos 1))
-    (λ level. plannedRow (t .fields) (t .numbers) (t .levels) (s .count) (s .count) parent level label none)
+    (λ level. plannedRow (t .fields) (t .numbers) (t .levels) (t .ancestors) (s .count) (s .count) parent level label none)
     (Refuse Corrupt)))))))
 
 -- a leaf of this label under this parent, with a scratch of this length
@@ -131,7 +133,7 @@ firstPlan t scratch s = onFit (capacityOf t) (λ c. firstWithin c scratch s) (Re
 unfoldable pub rootOver : Parts → State → ℕ → ℕ → Planned
 rootOver t s tree r =
     onLevel (levelOf (levelAt (t .levels) r -ℤ pos 1))
-    (λ level. plannedRow (t .fields) (t .numbers) (t .levels) (s .count) (s .count) r level 0 tree)
+    (λ level. plannedRow (t .fields) (t .numbers) (t .levels) (t .ancestors) (s .count) (s .count) r level 0 tree)
     (Refuse Corrupt)
 
 -- a new root over x in parts that fit the capacity c

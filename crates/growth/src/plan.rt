@@ -3,6 +3,7 @@ use crate::attach::Leaf;
 use crate::chain::Top;
 use crate::chain::top_of;
 use crate::check_walk::check_walk;
+use crate::copied::copies_links;
 use crate::good::is_good;
 use renumber::Head;
 use renumber::count::one_more;
@@ -134,6 +135,7 @@ fn plan_at(
     fields: &[u16],
     numbers: &[u64],
     levels: &[i32],
+    ancestors: &[u16],
     count: u16,
     z: u16,
     p: u16,
@@ -145,7 +147,7 @@ fn plan_at(
     tree: u16,
 ) -> Planned
     requires { ⌜ Held count (now fields) (now numbers) (now levels) ⌝ }
-    ensures { λ r. ⌜ r ≡ plannedAt (now (fields .entry)) (now (numbers .entry)) (now (levels .entry)) count z p upper top depth level label tree ⌝ }
+    ensures { λ r. ⌜ r ≡ plannedAt (now (fields .entry)) (now (numbers .entry)) (now (levels .entry)) (now (ancestors .entry)) count z p upper top depth level label tree ⌝ }
 {
     let leaf = Leaf {
         row: z,
@@ -157,6 +159,9 @@ fn plan_at(
         return Planned::Refuse(Refusal::Corrupt);
     }
     if !is_whole(fields, numbers, levels, count, leaf, head) {
+        return Planned::Refuse(Refusal::Corrupt);
+    }
+    if !copies_links(ancestors, count, head.upper) {
         return Planned::Refuse(Refusal::Corrupt);
     }
     Planned::Grow(Plan {
@@ -175,6 +180,7 @@ pub fn plan_row(
     fields: &[u16],
     numbers: &[u64],
     levels: &[i32],
+    ancestors: &[u16],
     count: u16,
     z: u16,
     p: u16,
@@ -183,7 +189,7 @@ pub fn plan_row(
     tree: u16,
 ) -> Planned
     requires { ⌜ Held count (now fields) (now numbers) (now levels) ⌝ }
-    ensures { λ r. ⌜ r ≡ plannedRow (now (fields .entry)) (now (numbers .entry)) (now (levels .entry)) count z p level label tree ⌝ }
+    ensures { λ r. ⌜ r ≡ plannedRow (now (fields .entry)) (now (numbers .entry)) (now (levels .entry)) (now (ancestors .entry)) count z p level label tree ⌝ }
 {
     if !is_good(fields, numbers, levels, count, p) {
         return Planned::Refuse(Refusal::Corrupt);
@@ -197,6 +203,7 @@ pub fn plan_row(
         fields,
         numbers,
         levels,
+        ancestors,
         count,
         z,
         p,

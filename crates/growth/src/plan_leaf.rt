@@ -66,6 +66,7 @@ pub fn plan_leaf(
         fields,
         numbers,
         levels,
+        ancestors,
         state.count,
         state.count,
         parent,

@@ -38,6 +38,7 @@ fn plan_above(
         fields,
         numbers,
         levels,
+        ancestors,
         state.count,
         state.count,
         r,

@@ -20,21 +20,21 @@ use Rattle.growth_laws.specs.GrowthKeepsRules.{start-keeps-rules, start-plain}
 use Rattle.growth_laws.specs.Lag.{lag, worth, perJoin}
 use Rattle.growth_laws.specs.LoneLaws.{parted-lag}
 use Rattle.growth_laws.specs.PlainStep.{PlainStart}
-use Rattle.growth.specs.declared.Grown.the-variants.{Node}
 use Rattle.growth.specs.declared.plan.Planned.the-variants.{Start}
 use Rattle.growth.specs.Plan.{rootPlan}
 use Rattle.growth.specs.PlanLaws.{first-row, root-first}
 use Rattle.growth.specs.Lone.{loneNumbers, loneEntries}
-use Rattle.growth.specs.Growth.{Outcome, startedFields, started, grownBy, addFirst, addRoot}
+use Rattle.growth.specs.Outcome.{node}
+use Rattle.growth.specs.Growth.{Result, startedFields, started, grownBy, addFirst, addRoot}
 use Rattle.renumbering.specs.Column.{put, put-other}
 use Rattle.growth_exact.specs.Columns.{RowView, row-set}
 use Rattle.growth_exact.specs.LoneExact.{own, fields, lone-fits, lone-in, kept-in}
 use Rattle.growth_exact.specs.GrowthExact.{tableGrown, capacity-is, standing-is, count-more}
 
 -- a first node of the parts p, of capacity c, came out as o: served, and as 02 has it
-pub record StartedExactly (c : ℕ) (p : Parts) (s : State) (o : Outcome) : Type 0 where
+pub record StartedExactly (c : ℕ) (p : Parts) (s : State) (o : Result) : Type 0 where
   -- the new number is the old count, and one row was numbered
-  pub answered : o .grown ≡ Node (record { state = record { count = suc (s .count) }; node = s .count; rows = 1 })
+  pub answered : o .outcome ≡ node (suc (s .count)) (s .count) 1
   -- the parts keep their lengths
   pub fits : Fits c (o .parts)
   -- one row more, that stands alone and is its own root; the others are as they were

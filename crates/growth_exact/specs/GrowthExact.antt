@@ -35,27 +35,27 @@ use Rattle.growth_laws.specs.PlainStep.{PlainStep}
 use Rattle.growth_laws.specs.Renumbered.{rows}
 use Rattle.growth_laws.specs.StartOrder.{StartOrder}
 use Rattle.growth_laws.specs.StartOrderLaws.{order-after}
-use Rattle.growth.specs.declared.Grown.the-variants.{Node}
 use Rattle.growth.specs.declared.plan.Planned.{Planned}
 use Rattle.growth.specs.declared.plan.Planned.the-variants.{Grow}
 use Rattle.growth.specs.Plan.{leafPlan, overPlan, rootPlan, rootOver}
 use Rattle.growth.specs.PlanLaws.{leaf-row, above-row, over-row, root-row}
 use Rattle.growth.specs.Store.{Stored}
-use Rattle.growth.specs.Growth.{Outcome, outcome, nodeAt, served, grownBy, addLeaf, addOver, addRoot}
+use Rattle.growth.specs.Outcome.{node}
+use Rattle.growth.specs.Growth.{Result, result, nodeAt, served, grownBy, addLeaf, addOver, addRoot}
 use Rattle.growth_exact.specs.SizeWalkExact.{more-one}
 use Rattle.growth_exact.specs.PlanExact.{plan, level-planned, joinedParts, site-stored, site-fits, site-step}
 use Rattle.growth_exact.specs.GrowthSite.{site, grows, headRow, tableGrown as tableJoined, grown, grown-rules}
 
 -- the table that stands after a growth
-abbrev pub tableGrown : State → Outcome → Table
+abbrev pub tableGrown : State → Result → Table
 tableGrown s o = tableOf (o .parts) (suc (s .count))
 
 -- growth g of the parts p, of capacity c, came out as o: served, and as 01 has it
-pub record GrownExactly (c : ℕ) (p : Parts) (s : State) (g : Growth) (o : Outcome) : Type 0 where
+pub record GrownExactly (c : ℕ) (p : Parts) (s : State) (g : Growth) (o : Result) : Type 0 where
   -- the head that was renumbered
   pub head : ℕ
   -- the new number is the old count; the rows answered are those at or below the head in the stored tree
-  pub answered : o .grown ≡ Node (record { state = record { count = suc (s .count) }; node = s .count; rows = rows (tableGrown s o) head })
+  pub answered : o .outcome ≡ node (suc (s .count)) (s .count) (rows (tableGrown s o) head)
   -- the parts keep their lengths
   pub fits : Fits c (o .parts)
   -- row, head and renumbering as 01 has them
@@ -80,10 +80,10 @@ capacity-is p fit = rw (fit .levels) at (capacity-fits p (rw (fit .levels) fit))
 pub standing-is : {c : ℕ} (p : Parts) (s : State) → Rules c (tableOf p (s .count)) → isStanding c s ≡ true
 standing-is {c} p s r = says-true (says-standing c s) (r .one .count)
 
-pub count-more : (n : ℕ) {c : ℕ} (p : Parts) → Fits c p → n < c → (k : ℕ) → nodeAt n k ≡ Node (record { state = record { count = suc n }; node = n; rows = k })
+pub count-more : (n : ℕ) {c : ℕ} (p : Parts) → Fits c p → n < c → (k : ℕ) → nodeAt n k ≡ node (suc n) n k
 count-more n p fit room k =
     let more : n + 1 ≡ suc n = omega arith in
-    ap (λ (m : ℕ). Node (record { state = record { count = m }; node = n; rows = k })) (more-one n (omega (arith, fit .most)) ∙ more)
+    ap (λ (m : ℕ). node m n k) (more-one n (omega (arith, fit .most)) ∙ more)
 
 -- the root of a tree, as the code reads it, is a row in use
 pub rooted : {c : ℕ} (p : Parts) (s : State) → Fits c p → Rules c (tableOf p (s .count)) → (x : ℕ) → x < s .count
@@ -104,12 +104,12 @@ module _ {c : ℕ} (p : Parts) (s : State) (fit : Fits c p) (r : Rules c (tableO
   abbrev h : ℕ
   h = headRow p (s .count) fit r room g named
 
-  abbrev left : Outcome
-  left = outcome (joinedParts (site p (s .count) fit r room g named) (labelOf g) (treeOf t g)) (nodeAt (s .count) (rows d h))
+  abbrev left : Result
+  left = result (joinedParts (site p (s .count) fit r room g named) (labelOf g) (treeOf t g)) (nodeAt (s .count) (rows d h))
 
   outcome-is : grownBy p (Grow (plan (site p (s .count) fit r room g named) (labelOf g) (treeOf t g))) ≡ left
   unfolding grownBy served
-  outcome-is = ap (λ (x : Stored). outcome (x .parts) (nodeAt (s .count) (x .given))) (site-stored (site p (s .count) fit r room g named) (labelOf g) (treeOf t g))
+  outcome-is = ap (λ (x : Stored). result (x .parts) (nodeAt (s .count) (x .given))) (site-stored (site p (s .count) fit r room g named) (labelOf g) (treeOf t g))
 
   left-exactly : GrownExactly c p s g left
   left-exactly =

@@ -89,7 +89,7 @@ module _ {c : ℕ} (p : Parts) (n : ℕ) (fit : Fits c p) (r : Rules c (tableOf 
       go (named-root {r = v} l e) = inr (omega (arith, first-in num (in-tree num v l)))
 
   -- planned, with no refusal
-  pub grows : plannedRow (p .fields) (p .numbers) (p .levels) n n (parentOf g) (levelOf t g) (labelOf g) (treeOf t g) ≡ Grow (plan site (labelOf g) (treeOf t g))
+  pub grows : plannedRow (p .fields) (p .numbers) (p .levels) (p .ancestors) n n (parentOf g) (levelOf t g) (labelOf g) (treeOf t g) ≡ Grow (plan site (labelOf g) (treeOf t g))
   grows = row-planned site (labelOf g) (treeOf t g)
 
   abbrev pub headRow : ℕ

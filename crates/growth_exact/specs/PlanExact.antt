@@ -34,10 +34,11 @@ use Rattle.growth.specs.declared.plan.Planned.the-variants.{Grow}
 use Rattle.growth.specs.Attach.{firstOf, firstAfter, nextAfter, parentAfter}
 use Rattle.growth.specs.CheckWalk.{isReadable}
 use Rattle.renumber.specs.Count.{oneMore}
+use Rattle.growth.specs.Copied.{copiesLinks}
 use Rattle.growth.specs.Good.{isGood}
 use Rattle.growth.specs.Level.{levelOf as levelWithin}
 use Rattle.growth.specs.Plan.{upperUnder, upperFor, leafUnder, headOf, isFirst, isSeated, isWhole, plannedRow}
-use Rattle.growth.specs.PlanLaws.{whole, on-top}
+use Rattle.growth.specs.PlanLaws.{planned, on-top}
 use Rattle.growth.specs.Store.{stored as storedAs, storedBy}
 use Rattle.growth_exact.specs.SizeWalkExact.{more-one}
 use Rattle.renumbering.specs.Column.{put}
@@ -45,6 +46,7 @@ use Rattle.growth_exact.specs.RenumberExact.{headAt}
 use Rattle.growth_exact.specs.CheckWalkExact.{Standing, check-passes}
 use Rattle.growth_exact.specs.Site.{Site, LeafOf}
 use Rattle.growth_exact.specs.JoinExact.{between, first-is, next-is, joined}
+use Rattle.growth_exact.specs.CopiedExact.{copies}
 use Rattle.growth_exact.specs.HeadExact.{headTop, head, is-head, top-found, head-planned, head-renumberable}
 use Rattle.growth_exact.specs.StoreExact.{head-seated, head-within, partsAfter, tableAfter, after-fits, after-step, after-given, root-rest}
 
@@ -147,6 +149,9 @@ module _ {c k : ℕ} {p : Parts} {t : Table} {z v : ℕ} {l : ℤ} (s : Site c p
 
   -- The tests
 
+  head-in : h < n
+  head-in = head-renumberable (s .was) in-m head-is .inUse
+
   first-or : (isFirst (p .fields) z h || not (eqb (upper m h) none)) ≡ true
   unfolding isFirst
   first-or = elim (ℕ-discrete (upper m h) none) [
@@ -156,9 +161,6 @@ module _ {c k : ℕ} {p : Parts} {t : Table} {z v : ℕ} {l : ℤ} (s : Site c p
         rw (ne-eqb h z (g .0), eq-eqb (fieldAt (p .fields) h parentPlace) none (column (λ (r : Row). r .parent) h o ∙ g .1)) refl
     | no d ↦ or-true (isFirst (p .fields) z h) (not (eqb (upper m h) none)) (rw (ne-eqb (upper m h) none d) refl)
   ]
-    where
-      head-in : h < n
-      head-in = head-renumberable (s .was) in-m head-is .inUse
 
   seated : isSeated (p .fields) (p .numbers) z (headAt m h) ≡ true
   unfolding isSeated
@@ -168,6 +170,9 @@ module _ {c k : ℕ} {p : Parts} {t : Table} {z v : ℕ} {l : ℤ} (s : Site c p
   unfolding isWhole
   whole-walk = or-true (eqb h z) _ (check-passes (head-renumberable (s .was) in-m head-is)
       (p .fields) (p .numbers) (p .levels) k (leafUnder (p .fields) z v) stands readable)
+
+  links : copiesLinks (p .ancestors) k (headAt m h .upper) ≡ true
+  links = copies s f tree w u deep leaf-of h head-in
 
   -- the plan
   abbrev pub plan : Plan
@@ -181,12 +186,12 @@ module _ {c k : ℕ} {p : Parts} {t : Table} {z v : ℕ} {l : ℤ} (s : Site c p
     tree = tree;
   }
 
-  pub row-planned : plannedRow (p .fields) (p .numbers) (p .levels) k z v l f tree ≡ Grow plan
+  pub row-planned : plannedRow (p .fields) (p .numbers) (p .levels) (p .ancestors) k z v l f tree ≡ Grow plan
   row-planned =
       let g : List ℕ = p .fields in
       let e : headOf g top z u ≡ headAt m h = head-planned s f tree w u deep leaf-of in
-      sym (on-top g (p .numbers) (p .levels) k z v l f tree top (s .good v (s .over)) (sym (top-found s f tree w u deep leaf-of)))
-      ∙ sym (whole g (p .numbers) (p .levels) k z v u top deep l f tree (rw e seated) (rw e whole-walk)) ∙ rw e refl
+      sym (on-top g (p .numbers) (p .levels) (p .ancestors) k z v l f tree top (s .good v (s .over)) (sym (top-found s f tree w u deep leaf-of)))
+      ∙ sym (planned g (p .numbers) (p .levels) (p .ancestors) k z v u top deep l f tree (rw e seated) (rw e whole-walk) (rw e links)) ∙ rw e refl
 
   pub level-planned : levelWithin l ≡ At l
   unfolding levelWithin

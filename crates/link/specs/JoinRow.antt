@@ -23,7 +23,7 @@ storedAs p n (Refuse r) = stored p 0
 unfoldable pub joinedUnder : Parts → ℕ → ℕ → ℕ → ℕ → Stored
 joinedUnder p n z v label =
     onLevel (levelOf (levelAt (p .levels) v +ℤ pos 1))
-    (λ level. storedAs p n (plannedRow (p .fields) (p .numbers) (p .levels) n z v level label none))
+    (λ level. storedAs p n (plannedRow (p .fields) (p .numbers) (p .levels) (p .ancestors) n z v level label none))
     (stored p 0)
 
 -- the label of row z: `door`, the label that a linked root takes, where z is that root x, else its own

@@ -21,20 +21,20 @@ use Rattle.growth.specs.Fitting.{onFit}
 use Rattle.growth.specs.Plan.{isLabel}
 use Rattle.growth.specs.Store.{Stored}
 use Rattle.link.specs.declared.Linked.{Linked}
-use Rattle.link.specs.declared.Linked.the-variants.{Under, Refused}
 use Rattle.link.specs.declared.check.Checked.{Checked}
 use Rattle.link.specs.declared.check.Checked.the-variants.{Serve, Refuse}
 use Rattle.link.specs.Sort.{Sorted, cellAt, sortedRows}
 use Rattle.link.specs.Detach.{detached}
 use Rattle.link.specs.Walk.{walking, joining, joinWalk}
+use Rattle.link.specs.Outcome.{Outcome, refusal, refused, under, outcomeOf}
 
--- what a link answers, and the parts afterwards
-pub record Outcome : Type 0 where
-  pub linked : Linked
+-- the outcome, and the parts afterwards
+pub record Result : Type 0 where
+  pub outcome : Outcome
   pub parts : Parts
 
-abbrev pub outcome : Parts → Linked → Outcome
-outcome p r = record { linked = r; parts = p }
+abbrev pub result : Parts → Outcome → Result
+result p o = record { outcome = o; parts = p }
 
 -- refused unless a test holds
 abbrev pub provided : Bool → Refusal → Checked → Checked
@@ -65,20 +65,20 @@ joinedTree p c n tree x v door =
     let s : Sorted = sortedRows c (p .levels) (p .ancestors) n tree (levelAt (p .levels) x) in
     joinWalk (2 * n) (cellAt (s .heads)) (cellAt (s .links)) n x door (walking (detached p n tree x v) (joining (cellAt (s .heads) 0) 0 0))
 
-unfoldable pub servedBy : Stored → Outcome
-servedBy o = outcome (o .parts) (Under (record { rows = o .given }))
+unfoldable pub servedBy : Stored → Result
+servedBy o = result (o .parts) (under (o .given))
 
 -- by what was decided: a refusal changes nothing
-unfoldable pub linkedBy : Parts → ℕ → ℕ → ℕ → ℕ → ℕ → Checked → Outcome
+unfoldable pub linkedBy : Parts → ℕ → ℕ → ℕ → ℕ → ℕ → Checked → Result
 linkedBy p c n x v door (Serve tree) = servedBy (joinedTree p c n tree x v door)
-linkedBy p c n x v door (Refuse r) = outcome p (Refused r)
+linkedBy p c n x v door (Refuse r) = result p (refused r)
 
 -- the tree of x under v by a door; of the scratch only its length counts
-unfoldable pub linkBy : Parts → ℕ → State → ℕ → ℕ → ℕ → Outcome
+unfoldable pub linkBy : Parts → ℕ → State → ℕ → ℕ → ℕ → Result
 linkBy p scratch s x v door = linkedBy p scratch (s .count) x v door (linkChecked p scratch s x v door)
 
 -- what a call of the code leaves: the outcome, and the scratch, which a refusal leaves as it was
 pub record LinkCall (p p′ : Parts) (scratch scratch′ : List ℕ) (s : State) (x v door : ℕ) (r : Linked) : Type 0 where
-  pub outcome : outcome p′ r ≡ linkBy p (length scratch) s x v door
+  pub outcome : result p′ (outcomeOf r) ≡ linkBy p (length scratch) s x v door
   pub long : length scratch′ ≡ length scratch
-  pub unchanged : (why : Refusal) → r ≡ Refused why → scratch′ ≡ scratch
+  pub unchanged : (n : ℕ) → outcomeOf r ≡ refusal n → scratch′ ≡ scratch

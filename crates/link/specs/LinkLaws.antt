@@ -26,7 +26,7 @@ use Rattle.link.specs.declared.Linked.the-variants.{Under, Refused}
 use Rattle.link.specs.declared.check.Checked.{Checked}
 use Rattle.link.specs.declared.check.Checked.the-variants.{Serve, Refuse}
 use Rattle.link.specs.Detach.{detachedFrom, detached}
-use Rattle.link.specs.Link.{outcome, provided, linkWithin, linkChecked, joinedTree, servedBy, linkedBy, linkBy, LinkCall}
+use Rattle.link.specs.Link.{provided, linkWithin, linkChecked, joinedTree, servedBy, linkedBy, linkBy, LinkCall}
 use Rattle.link.specs.Sort.{cellAt, sorted, sortedRows}
 use Rattle.link.specs.Walk.{walking, joining, joinWalk}
 
@@ -81,7 +81,7 @@ module _ (p : Parts) (scratch : ℕ) (s : State) (x v door : ℕ) where
 module _ (p : Parts) (scratch : List ℕ) (s : State) (x v door : ℕ) {k : Checked} (e : k ≡ linkChecked p (length scratch) s x v door) where
   pub call-refused : {why : Refusal} → k ≡ Refuse why → LinkCall p p scratch scratch s x v door (Refused why)
   unfolding linkBy linkedBy
-  call-refused h = record { outcome = rw (← e, h) refl; long = refl; unchanged = λ w z. refl }
+  call-refused h = record { outcome = rw (← e, h) refl; long = refl; unchanged = λ n z. refl }
 
   pub call-served : {tree rows : ℕ} {p′ : Parts} {scratch′ : List ℕ} → k ≡ Serve tree → stored p′ rows ≡ joinedTree p (length scratch) (s .count) tree x v door
       → length scratch′ ≡ length scratch → LinkCall p p′ scratch scratch′ s x v door (Under (record { rows = rows }))
@@ -89,5 +89,5 @@ module _ (p : Parts) (scratch : List ℕ) (s : State) (x v door : ℕ) {k : Chec
   call-served h i l = record {
     outcome = rw (← e, h, ← i) refl;
     long = l;
-    unchanged = λ w z. let y : _≡_ {A = ℕ} 0 1 = cc in absurd (omega arith);
+    unchanged = λ n z. let y : _≡_ {A = ℕ} 0 1 = cc in absurd (omega arith);
   }

@@ -42,7 +42,7 @@ module _ (p : Parts) (n x door z : ℕ) {v : ℕ} {level : Level} (under : v ≡
   join-out e = rw (← under, ← told, e)
 
   pub join-at : {k : ℤ} {label : ℕ} {planned : Planned} {o : Stored} → level ≡ At k → label ≡ labelFor (p .fields) x door z
-      → planned ≡ plannedRow (p .fields) (p .numbers) (p .levels) n z v k label none → o ≡ storedAs p n planned → o ≡ joinRow p n x door z
+      → planned ≡ plannedRow (p .fields) (p .numbers) (p .levels) (p .ancestors) n z v k label none → o ≡ storedAs p n planned → o ≡ joinRow p n x door z
   unfolding joinRow joinedUnder
   join-at e f g h = rw (← under, ← told, e, ← f, ← g) h
 

@@ -32,17 +32,17 @@ use Rattle.growth.specs.Plan.{isLabel}
 use Rattle.link_laws.specs.Link.{Linkable, Linked, PlainLink}
 use Rattle.link_laws.specs.LinkLaws.{link-keeps-rules, link-plain, link-pays}
 use Rattle.link_laws.specs.Order.{treeRows}
-use Rattle.link.specs.declared.Linked.the-variants.{Under, Refused}
 use Rattle.link.specs.declared.check.Checked.{Checked}
 use Rattle.link.specs.declared.check.Checked.the-variants.{Serve, Refuse}
 use Rattle.link.specs.CheckLaws.{check-scratch, check-x, check-v, check-label, check-not-root, check-same, check-inspect, check-serve}
-use Rattle.link.specs.Link.{Outcome, outcome, provided, linkWithin, linkChecked, joinedTree, servedBy, linkedBy, linkBy}
+use Rattle.link.specs.Outcome.{refusal, refused, under}
+use Rattle.link.specs.Link.{Result, result, provided, linkWithin, linkChecked, joinedTree, servedBy, linkedBy, linkBy}
 use Rattle.link_exact.specs.TreeJoined.{after, renumbered, tree-linked, tree-fits, tree-joined}
 
 -- a link that was served, told by its outcome
-pub record LinkedExactly (c : ℕ) (p : Parts) (s : State) (x v door : ℕ) (o : Outcome) : Type 0 where
+pub record LinkedExactly (c : ℕ) (p : Parts) (s : State) (x v door : ℕ) (o : Result) : Type 0 where
   pub rows : ℕ
-  pub answered : o .linked ≡ Under (record { rows = rows })
+  pub answered : o .outcome ≡ under rows
   pub fits : Fits c (o .parts)
   pub linked : Linked (tableOf p (s .count)) (tableOf (o .parts) (s .count)) x v door rows
   pub rules : Rules c (tableOf (o .parts) (s .count))
@@ -51,7 +51,7 @@ pub record LinkedExactly (c : ℕ) (p : Parts) (s : State) (x v door : ℕ) (o :
 
 -- by what was decided
 by-refusal : (p : Parts) (scratch : ℕ) (s : State) (x v door : ℕ) {why : Refusal} → Refuse why ≡ linkChecked p scratch s x v door
-    → linkBy p scratch s x v door ≡ outcome p (Refused why)
+    → linkBy p scratch s x v door ≡ result p (refused why)
 unfolding linkBy linkedBy
 by-refusal p scratch s x v door e = rw (← e) refl
 
@@ -63,27 +63,27 @@ by-serving p scratch s x v door e = rw (← e) refl
 -- Refusals on any table
 
 module _ {c : ℕ} (p : Parts) (scratch : ℕ) (s : State) (x v door : ℕ) (fit : Fits c p) where
-  pub link-misfit : scratch ≢ c → linkBy p scratch s x v door ≡ outcome p (Refused Misfit)
+  pub link-misfit : scratch ≢ c → linkBy p scratch s x v door ≡ result p (refused Misfit)
   link-misfit d = by-refusal p scratch s x v door (check-scratch p scratch s x v door c (sym (fits-told fit)) d)
 
   module _ (same : scratch ≡ c) where
-    pub link-unknown-x : s .count ≤ x → linkBy p scratch s x v door ≡ outcome p (Refused UnknownNode)
+    pub link-unknown-x : s .count ≤ x → linkBy p scratch s x v door ≡ result p (refused UnknownNode)
     link-unknown-x l = by-refusal p scratch s x v door (check-x p scratch s x v door c (sym (fits-told fit)) same l)
 
-    pub link-unknown-v : s .count ≤ v → linkBy p scratch s x v door ≡ outcome p (Refused UnknownNode)
+    pub link-unknown-v : s .count ≤ v → linkBy p scratch s x v door ≡ result p (refused UnknownNode)
     link-unknown-v l = elim (decLt x (s .count)) [
       | yes k ↦ by-refusal p scratch s x v door (check-v p scratch s x v door c (sym (fits-told fit)) same k l)
       | no d ↦ link-unknown-x (omega arith)
     ]
 
     module _ (inX : x < s .count) (inV : v < s .count) where
-      pub link-label : isLabel door ≡ false → linkBy p scratch s x v door ≡ outcome p (Refused BadLabel)
+      pub link-label : isLabel door ≡ false → linkBy p scratch s x v door ≡ result p (refused BadLabel)
       link-label e = by-refusal p scratch s x v door (check-label p scratch s x v door c (sym (fits-told fit)) same inX inV e)
 
       -- what 3, 1, 5, 10 and 11 let through is refused where inspection says no
       pub link-corrupt : isLabel door ≡ true → s .count ≤ c → rootAt (p .fields) (p .ancestors) (s .count) x ≡ x
           → treeAt (p .ancestors) (s .count) v ≢ none → treeAt (p .ancestors) (s .count) v ≢ treeAt (p .ancestors) (s .count) x
-          → inspects c (tableOf p (s .count)) ≡ false → linkBy p scratch s x v door ≡ outcome p (Refused Corrupt)
+          → inspects c (tableOf p (s .count)) ≡ false → linkBy p scratch s x v door ≡ result p (refused Corrupt)
       link-corrupt e l i j k z = by-refusal p scratch s x v door (check-inspect p scratch s x v door c (sym (fits-told fit)) same inX inV e
           (says-true (says-standing c s) l) (λ y. omega (arith, fit .most, sym i ∙ y)) i j k z)
 
@@ -109,11 +109,11 @@ module _ {c : ℕ} (p : Parts) (scratch : ℕ) (s : State) (x v door : ℕ) (fit
   t = tableOf p (s .count)
 
   module _ (inX : x < s .count) (inV : v < s .count) (label : isLabel door ≡ true) where
-    pub link-not-root : root t x ≢ x → linkBy p scratch s x v door ≡ outcome p (Refused NotRoot)
+    pub link-not-root : root t x ≢ x → linkBy p scratch s x v door ≡ result p (refused NotRoot)
     link-not-root d = by-refusal p scratch s x v door (check-not-root p scratch s x v door c (sym (fits-told fit)) same inX inV label (standing p s fit r) (root-some p s fit r inX)
         (λ e. d (sym (root-read p s fit r inX) ∙ e)))
 
-    pub link-same-tree : root t x ≡ x → first t v ≡ first t x → linkBy p scratch s x v door ≡ outcome p (Refused SameTree)
+    pub link-same-tree : root t x ≡ x → first t v ≡ first t x → linkBy p scratch s x v door ≡ result p (refused SameTree)
     link-same-tree e i = by-refusal p scratch s x v door (check-same p scratch s x v door c (sym (fits-told fit)) same inX inV label (standing p s fit r) (root-some p s fit r inX)
         (root-read p s fit r inX ∙ e) (tree-some p s fit r inV) (tree-same p (s .count) r (fit .most) v x inV inX i))
 
@@ -131,7 +131,7 @@ module _ {c : ℕ} (p : Parts) (scratch : ℕ) (s : State) (x v door : ℕ) (fit
     abbrev d : Parts
     d = after r fit h
 
-    served : linkBy p scratch s x v door ≡ outcome d (Under (record { rows = renumbered r fit h }))
+    served : linkBy p scratch s x v door ≡ result d (under (renumbered r fit h))
     unfolding servedBy
     served = by-serving p scratch s x v door checked ∙ rw (same, tree-joined r fit h) refl
 
@@ -149,12 +149,15 @@ module _ {c : ℕ} (p : Parts) (scratch : ℕ) (s : State) (x v door : ℕ) (fit
 -- 4 exactly where inspection says no
 
 -- a call that 3, 1, 5, 10 and 11 let through
-pub record LetThrough (o : Outcome) : Type 0 where
-  pub fits : o .linked ≢ Refused Misfit
-  pub known : o .linked ≢ Refused UnknownNode
-  pub labelled : o .linked ≢ Refused BadLabel
-  pub isRoot : o .linked ≢ Refused NotRoot
-  pub otherTree : o .linked ≢ Refused SameTree
+pub record LetThrough (o : Result) : Type 0 where
+  pub fits : o .outcome ≢ refusal 3
+  pub known : o .outcome ≢ refusal 1
+  pub labelled : o .outcome ≢ refusal 5
+  pub isRoot : o .outcome ≢ refusal 10
+  pub otherTree : o .outcome ≢ refusal 11
+
+same-number : {m n : ℕ} → refusal m ≡ refusal n → m ≡ n
+same-number e = cc
 
 -- the answers of one decision
 ladder : Bool → Bool → Bool → Bool → Bool → Bool → Bool → Bool → Bool → Bool → Checked → Checked
@@ -163,11 +166,11 @@ ladder a b d e g h i j k l o =
     (provided j Corrupt (provided k SameTree (provided l Corrupt o)))))))))
 
 module _ (p : Parts) (scratch n x v door : ℕ) where
-  told : Checked → Outcome
+  told : Checked → Result
   told o = linkedBy p scratch n x v door o
 
   -- inspection says no: 4 is all that is left
-  no-four : (a b d e g h i j k : Bool) (o : Checked) → LetThrough (told (ladder a b d e g h i j k false o)) → told (ladder a b d e g h i j k false o) .linked ≡ Refused Corrupt
+  no-four : (a b d e g h i j k : Bool) (o : Checked) → LetThrough (told (ladder a b d e g h i j k false o)) → told (ladder a b d e g h i j k false o) .outcome ≡ refusal 4
   unfolding ladder told linkedBy
   no-four false b d e g h i j k o q = absurd (q .fits refl)
   no-four true false d e g h i j k o q = absurd (q .known refl)
@@ -182,16 +185,16 @@ module _ (p : Parts) (scratch n x v door : ℕ) where
 
   -- inspection says yes: 4 is never given
   yes-none : (a b d e h i j k : Bool) (tree : ℕ) → (b ≡ true → h ≡ true) → (d ≡ true → j ≡ true)
-      → told (ladder a b d e true h i j k true (Serve tree)) .linked ≡ Refused Corrupt → ⊥
+      → told (ladder a b d e true h i j k true (Serve tree)) .outcome ≡ refusal 4 → ⊥
   unfolding ladder told linkedBy servedBy
-  yes-none false b d e h i j k tree y z q = let o : _≡_ {A = ℕ} 0 1 = cc in omega arith
-  yes-none true false d e h i j k tree y z q = let o : _≡_ {A = ℕ} 0 1 = cc in omega arith
-  yes-none true true false e h i j k tree y z q = let o : _≡_ {A = ℕ} 0 1 = cc in omega arith
-  yes-none true true true false h i j k tree y z q = let o : _≡_ {A = ℕ} 0 1 = cc in omega arith
+  yes-none false b d e h i j k tree y z q = omega (arith, same-number {m = 3} q)
+  yes-none true false d e h i j k tree y z q = omega (arith, same-number {m = 1} q)
+  yes-none true true false e h i j k tree y z q = omega (arith, same-number {m = 1} q)
+  yes-none true true true false h i j k tree y z q = omega (arith, same-number {m = 5} q)
   yes-none true true true true false i j k tree y z q = let o : _≡_ {A = ℕ} 0 1 = cc (y refl) in omega arith
-  yes-none true true true true true false j k tree y z q = let o : _≡_ {A = ℕ} 0 1 = cc in omega arith
+  yes-none true true true true true false j k tree y z q = omega (arith, same-number {m = 10} q)
   yes-none true true true true true true false k tree y z q = let o : _≡_ {A = ℕ} 0 1 = cc (z refl) in omega arith
-  yes-none true true true true true true true false tree y z q = let o : _≡_ {A = ℕ} 0 1 = cc in omega arith
+  yes-none true true true true true true true false tree y z q = omega (arith, same-number {m = 11} q)
   yes-none true true true true true true true true tree y z q = let o : _≡_ {A = ℕ} 0 1 = cc in omega arith
 
 module _ {c : ℕ} (p : Parts) (scratch : ℕ) (s : State) (x v door : ℕ) (fit : Fits c p) where
@@ -207,23 +210,23 @@ module _ {c : ℕ} (p : Parts) (scratch : ℕ) (s : State) (x v door : ℕ) (fit
   link-told e = rw (fits-told fit, e) refl
 
   -- 4 is given only where inspection says no
-  pub link-four-only : linkBy p scratch s x v door .linked ≡ Refused Corrupt → inspects c (tableOf p (s .count)) ≡ false
+  pub link-four-only : linkBy p scratch s x v door .outcome ≡ refusal 4 → inspects c (tableOf p (s .count)) ≡ false
   link-four-only q = go (inspects c (tableOf p (s .count))) refl
     where
       go : (l : Bool) → inspects c (tableOf p (s .count)) ≡ l → l ≡ false
       go false e = refl
       go true e =
           let r : Rules c (tableOf p (s .count)) = says-get (inspect-exact c (tableOf p (s .count)) (fit .most)) e in
-          let k = ap (λ (o : Outcome). o .linked) (sym (link-told e)) ∙ q in
+          let k = ap (λ (o : Result). o .outcome) (sym (link-told e)) ∙ q in
           absurd (yes-none p scratch (s .count) x v door (eqb scratch c) (ltb x (s .count)) (ltb v (s .count)) (isLabel door) _ _ _ _ _
           (λ i. ap not (ne-eqb _ none (root-some p s fit r (says-get (says-ltb x (s .count)) i))))
           (λ i. ap not (ne-eqb _ none (tree-some p s fit r (says-get (says-ltb v (s .count)) i))))
           (rw (standing p s fit r) at k))
 
   -- and of what 3, 1, 5, 10 and 11 let through, exactly there
-  pub link-four : LetThrough (linkBy p scratch s x v door) → Says (linkBy p scratch s x v door .linked ≡ Refused Corrupt) (not (inspects c (tableOf p (s .count))))
+  pub link-four : LetThrough (linkBy p scratch s x v door) → Says (linkBy p scratch s x v door .outcome ≡ refusal 4) (not (inspects c (tableOf p (s .count))))
   link-four q = go (inspects c (tableOf p (s .count))) refl
     where
-      go : (l : Bool) → inspects c (tableOf p (s .count)) ≡ l → Says (linkBy p scratch s x v door .linked ≡ Refused Corrupt) (not l)
+      go : (l : Bool) → inspects c (tableOf p (s .count)) ≡ l → Says (linkBy p scratch s x v door .outcome ≡ refusal 4) (not l)
       go true e = fails (λ k. let z : _≡_ {A = ℕ} 0 1 = cc (link-four-only k) in omega arith)
-      go false e = holds (ap (λ (o : Outcome). o .linked) (link-told e) ∙ no-four p scratch (s .count) x v door _ _ _ _ _ _ _ _ _ _ (rw (link-told e) at q))
+      go false e = holds (ap (λ (o : Result). o .outcome) (link-told e) ∙ no-four p scratch (s .count) x v door _ _ _ _ _ _ _ _ _ _ (rw (link-told e) at q))

@@ -1,18 +1,16 @@
 -- The replies of byte trees: as `Reply` has them, with the values as bytes, low byte first, distances in 4 bytes and all others in 2.
 use mathlib.Core.List.{List, _++_}
 use Prim.Native.Nat.{ℕ}
-use Rattle.rows.specs.Refusal.{numberOf}
-use Rattle.growth.specs.declared.Grown.{Grown}
-use Rattle.growth.specs.declared.Grown.the-variants.{Node, Refused}
+use Rattle.growth.specs.Outcome.{Outcome as GrowthOutcome, refusal as notGrown, node}
 use Rattle.query.specs.Outcome.{Outcome, refusal, answer}
 use Rattle.bytes_tree.specs.Bytes.{bytes}
 use Rattle.bytes_tree.specs.Sign.{unsigned}
 use Rattle.replies.specs.Reply.{Reply, reply}
 
 -- the new node, and the rows renumbered; the count stands in the tree
-abbrev pub grownBytes : List ℕ → Grown → Reply ℕ
-grownBytes out (Node g) = reply 0 (bytes 2 (g .node) ++ bytes 2 (g .rows))
-grownBytes out (Refused r) = reply (numberOf r) out
+abbrev pub grownBytes : List ℕ → GrowthOutcome → Reply ℕ
+grownBytes out (notGrown n) = reply n out
+grownBytes out (node c n k) = reply 0 (bytes 2 n ++ bytes 2 k)
 
 -- the nearest common ancestor, the branches towards x and y, their distances, and the label
 abbrev pub questionBytes : List ℕ → Outcome → Reply ℕ

@@ -5,16 +5,12 @@ use lib.IntN.{ℤ, pos}
 use Rattle.laws.specs.Test.{bit}
 use Rattle.rows.specs.declared.refusal.Refusal.the-variants.{Misfit}
 use Rattle.rows.specs.Refusal.{numberOf}
-use Rattle.set_up.specs.declared.Made.{Made}
-use Rattle.set_up.specs.declared.Made.the-variants.{Empty, Refused as NotMade}
-use Rattle.growth.specs.declared.Grown.{Grown}
-use Rattle.growth.specs.declared.Grown.the-variants.{Node, Refused as NotGrown}
-use Rattle.link.specs.declared.Linked.{Linked}
-use Rattle.link.specs.declared.Linked.the-variants.{Under, Refused as NotLinked}
+use Rattle.set_up.specs.Outcome.{Outcome as SetUpOutcome, refusal as notMade, empty}
+use Rattle.growth.specs.Outcome.{Outcome as GrowthOutcome, refusal as notGrown, node}
+use Rattle.link.specs.Outcome.{Outcome as LinkOutcome, refusal as notLinked, under}
 use Rattle.query.specs.Outcome.{Outcome as QuestionOutcome, refusal as noAnswer, answer}
 use Rattle.alike.specs.Outcome.{Outcome as AlikeOutcome, refusal as noValue, value}
-use Rattle.inspect.specs.declared.Inspected.{Inspected}
-use Rattle.inspect.specs.declared.Inspected.the-variants.{Passes, Refused as NotInspected}
+use Rattle.inspect.specs.Outcome.{Outcome as InspectionOutcome, refusal as notInspected, passes}
 
 pub record Reply (A : Type 0) : Type 0 where
   pub number : ℕ
@@ -28,19 +24,19 @@ abbrev pub misfit : {A : Type 0} → List A → Reply A
 misfit out = reply (numberOf Misfit) out
 
 -- the count
-abbrev pub madeReply : List ℕ → Made → Reply ℕ
-madeReply out (Empty s) = reply 0 (s .count ∷ [])
-madeReply out (NotMade r) = reply (numberOf r) out
+abbrev pub madeReply : List ℕ → SetUpOutcome → Reply ℕ
+madeReply out (notMade n) = reply n out
+madeReply out (empty c) = reply 0 (c ∷ [])
 
 -- count, the new node, and the rows renumbered
-abbrev pub grownReply : List ℕ → Grown → Reply ℕ
-grownReply out (Node g) = reply 0 (g .state .count ∷ g .node ∷ g .rows ∷ [])
-grownReply out (NotGrown r) = reply (numberOf r) out
+abbrev pub grownReply : List ℕ → GrowthOutcome → Reply ℕ
+grownReply out (notGrown n) = reply n out
+grownReply out (node c n k) = reply 0 (c ∷ n ∷ k ∷ [])
 
 -- the rows renumbered
-abbrev pub linkReply : List ℕ → Linked → Reply ℕ
-linkReply out (Under l) = reply 0 (l .rows ∷ [])
-linkReply out (NotLinked r) = reply (numberOf r) out
+abbrev pub linkReply : List ℕ → LinkOutcome → Reply ℕ
+linkReply out (notLinked n) = reply n out
+linkReply out (under k) = reply 0 (k ∷ [])
 
 -- the nearest common ancestor, the branches towards x and y, their distances, and the label
 abbrev pub questionReply : List ℤ → QuestionOutcome → Reply ℤ
@@ -53,6 +49,6 @@ alikeReply out (noValue n) = reply n out
 alikeReply out (value b) = reply 0 (b ∷ [])
 
 -- 1 or 0
-abbrev pub inspectionReply : List ℕ → Inspected → Reply ℕ
-inspectionReply out (Passes b) = reply 0 (bit b ∷ [])
-inspectionReply out (NotInspected r) = reply (numberOf r) out
+abbrev pub inspectionReply : List ℕ → InspectionOutcome → Reply ℕ
+inspectionReply out (notInspected n) = reply n out
+inspectionReply out (passes b) = reply 0 (bit b ∷ [])

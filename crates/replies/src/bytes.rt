@@ -8,6 +8,7 @@ use query::Answered;
 use rows::refusal::number_of;
 ghost use mathlib.Core.Path.{_≡_};
 ghost use lib.ListN.{length};
+ghost use Rattle.growth.specs.Outcome.{outcomeOf as growthOf};
 ghost use Rattle.query.specs.Outcome.{outcomeOf};
 ghost use Rattle.query.specs.declared.Answered.the-variants as answered;
 ghost use Rattle.replies.specs.Reply.{reply};
@@ -15,7 +16,7 @@ ghost use Rattle.replies.specs.ByteReply.{grownBytes, questionBytes};
 
 pub fn reply_grown(grown: Grown, out: &mut [u8]) -> u16
     requires { ⌜ length (now out) ≡ 4 ⌝ }
-    ensures { λ r. ⌜ reply r (now (out .exit)) ≡ grownBytes (now (out .entry)) grown ⌝ }
+    ensures { λ r. ⌜ reply r (now (out .exit)) ≡ grownBytes (now (out .entry)) (growthOf grown) ⌝ }
 {
     match grown {
         Grown::Node(g) => {

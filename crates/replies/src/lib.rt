@@ -13,8 +13,12 @@ ghost use mathlib.Core.List.{[], _∷_};
 ghost use lib.IntN.{pos};
 ghost use lib.ListN.{length};
 ghost use Rattle.laws.specs.Test.{bit};
+ghost use Rattle.set_up.specs.Outcome.{outcomeOf as emptyOf};
+ghost use Rattle.growth.specs.Outcome.{outcomeOf as growthOf};
+ghost use Rattle.link.specs.Outcome.{outcomeOf as linkOf};
 ghost use Rattle.query.specs.Outcome.{outcomeOf as answerOf};
 ghost use Rattle.alike.specs.Outcome.{outcomeOf as comparisonOf};
+ghost use Rattle.inspect.specs.Outcome.{outcomeOf as inspectionOf};
 ghost use Rattle.replies.specs.Reply.{reply, madeReply, grownReply, linkReply, questionReply, alikeReply, inspectionReply};
 
 fn signed(x: u16) -> i32
@@ -66,7 +70,7 @@ fn put_six(out: &mut [i32], a: i32, b: i32, c: i32, d: i32, e: i32, f: i32)
 
 pub fn reply_made(made: Made, out: &mut [u16]) -> u16
     requires { ⌜ length (now out) ≡ 1 ⌝ }
-    ensures { λ r. ⌜ reply r (now (out .exit)) ≡ madeReply (now (out .entry)) made ⌝ }
+    ensures { λ r. ⌜ reply r (now (out .exit)) ≡ madeReply (now (out .entry)) (emptyOf made) ⌝ }
 {
     match made {
         Made::Empty(s) => {
@@ -79,7 +83,7 @@ pub fn reply_made(made: Made, out: &mut [u16]) -> u16
 
 pub fn reply_grown(grown: Grown, out: &mut [u16]) -> u16
     requires { ⌜ length (now out) ≡ 3 ⌝ }
-    ensures { λ r. ⌜ reply r (now (out .exit)) ≡ grownReply (now (out .entry)) grown ⌝ }
+    ensures { λ r. ⌜ reply r (now (out .exit)) ≡ grownReply (now (out .entry)) (growthOf grown) ⌝ }
 {
     match grown {
         Grown::Node(g) => {
@@ -93,7 +97,7 @@ pub fn reply_grown(grown: Grown, out: &mut [u16]) -> u16
 
 pub fn reply_linked(linked: Linked, out: &mut [u32]) -> u16
     requires { ⌜ length (now out) ≡ 1 ⌝ }
-    ensures { λ r. ⌜ reply r (now (out .exit)) ≡ linkReply (now (out .entry)) linked ⌝ }
+    ensures { λ r. ⌜ reply r (now (out .exit)) ≡ linkReply (now (out .entry)) (linkOf linked) ⌝ }
 {
     match linked {
         Linked::Under(l) => {
@@ -140,7 +144,7 @@ pub fn reply_compared(compared: Compared, out: &mut [u16]) -> u16
 
 pub fn reply_inspected(inspected: Inspected, out: &mut [u16]) -> u16
     requires { ⌜ length (now out) ≡ 1 ⌝ }
-    ensures { λ r. ⌜ reply r (now (out .exit)) ≡ inspectionReply (now (out .entry)) inspected ⌝ }
+    ensures { λ r. ⌜ reply r (now (out .exit)) ≡ inspectionReply (now (out .entry)) (inspectionOf inspected) ⌝ }
 {
     match inspected {
         Inspected::Passes(b) => {

@@ -25,8 +25,7 @@ use Rattle.alike.specs.Alike.{alike as compare}
 use Rattle.alike.specs.AlikeLaws.{alike-unknown-x, alike-unknown-y}
 use Rattle.alike.specs.AlikeExact.{alike-exact, alike-other-tree}
 use Rattle.inspect_laws.specs.Exact.{inspect-exact}
-use Rattle.inspect.specs.declared.Inspected.{Inspected}
-use Rattle.inspect.specs.declared.Inspected.the-variants.{Passes, Refused}
+use Rattle.inspect.specs.Outcome.{Outcome as InspectionOutcome, refused as notInspected, passes as inspectionPasses}
 use Rattle.inspect.specs.Inspection.{inspection as inspect}
 use Rattle.plain_list.specs.PlainList.{PlainList, countOf}
 use Rattle.plain_list.specs.PlainStep.{PlainReply, PlainOutcome, replies as plainReplies, refused as plainRefused, answered as plainAnswered, same as plainSame, passes}
@@ -135,11 +134,11 @@ module _ {c : ℕ} {f : Fast} {p : PlainList} {stored : StoredList} {total joini
 
   -- Inspection
 
-  inspection-is : (n : ℕ) → n ≡ c → inspect (f .parts) n (f .state) ≡ Passes true
+  inspection-is : (n : ℕ) → n ≡ c → inspect (f .parts) n (f .state) ≡ inspectionPasses true
   unfolding inspect
   inspection-is n e = rw (fits-told (s .fits), eq-eqb n c e, says-true (inspect-exact c (tableIn f) (s .fits .most)) (s .rules)) refl
 
-  inspection-not : (n : ℕ) → n ≢ c → inspect (f .parts) n (f .state) ≡ Refused Misfit
+  inspection-not : (n : ℕ) → n ≢ c → inspect (f .parts) n (f .state) ≡ notInspected Misfit
   unfolding inspect
   inspection-not n d = rw (fits-told (s .fits), ne-eqb n c d) refl
 
@@ -148,8 +147,8 @@ module _ {c : ℕ} {f : Fast} {p : PlainList} {stored : StoredList} {total joini
   unfolding step
   inspection-step scratch = elim (ℕ-discrete (length scratch) c) [
     | no d ↦ steps-by (inspection scratch) (plainRefused 3) (refused 3) (inspection-misfit c p (length scratch) d)
-        (ap (λ (o : Inspected). replies f (inspectionReply o)) (inspection-not (length scratch) d)) (still-refused (inspection scratch) 3)
+        (ap (λ (o : InspectionOutcome). replies f (inspectionReply o)) (inspection-not (length scratch) d)) (still-refused (inspection scratch) 3)
     | yes e ↦ steps-by (inspection scratch) passes (inspected true) (inspection-served c p (length scratch) e)
-        (ap (λ (o : Inspected). replies f (inspectionReply o)) (inspection-is (length scratch) e))
+        (ap (λ (o : InspectionOutcome). replies f (inspectionReply o)) (inspection-is (length scratch) e))
         (still s (inspection scratch) pass refl (λ n k e. let z : _≡_ {A = ℕ} 0 1 = cc in omega arith) (λ k e. let z : _≡_ {A = ℕ} 0 1 = cc in omega arith))
   ]

@@ -20,7 +20,7 @@ use Rattle.growth.specs.declared.plan.Planned.the-variants.{Refuse}
 use Rattle.growth.specs.Plan.{firstPlan, leafPlan, overPlan, rootPlan}
 use Rattle.growth.specs.PlanLaws.{leaf-scratch, leaf-unknown, leaf-label, leaf-full, first-scratch, first-full, root-scratch, root-full}
 use Rattle.growth.specs.PlanLaws.{over-scratch, over-unknown, over-other, over-full}
-use Rattle.growth.specs.Growth.{Outcome, addFirst, addLeaf, addOver, addRoot}
+use Rattle.growth.specs.Growth.{Result, addFirst, addLeaf, addOver, addRoot}
 use Rattle.growth_laws.specs.Growth.{leaf as newLeaf, root as newRoot}
 use Rattle.growth_exact.specs.GrowthExact.{GrownExactly, tableGrown, standing-is, rooted, leaf-exact, over-exact, root-exact}
 use Rattle.growth_exact.specs.FirstExact.{StartedExactly, first-exact, root-first-exact}
@@ -48,7 +48,7 @@ module _ {c : ℕ} {f : Fast} {p : PlainList} {stored : StoredList} {total joini
 
   -- The plain list after each growth
 
-  first-next : {o : Outcome} → countOf p ≢ c → StartedExactly c (f .parts) (f .state) o → Next s (tableGrown (f .state) o) (withFirst p)
+  first-next : {o : Result} → countOf p ≢ c → StartedExactly c (f .parts) (f .state) o → Next s (tableGrown (f .state) o) (withFirst p)
   first-next {o} n e = record {
     proper = proper-first small (s .proper) n;
     shows = shows-node (s .proper) (s .shows) (λ x i. e .plain .labelOld x (in-use s i)) (λ x i. e .plain .parentOld x (in-use s i))
@@ -56,7 +56,7 @@ module _ {c : ℕ} {f : Fast} {p : PlainList} {stored : StoredList} {total joini
     count = node-count p none 0;
   }
 
-  leaf-next : {v l : ℕ} {o : Outcome} → countOf p ≢ c → v < countOf p → GrownExactly c (f .parts) (f .state) (newLeaf v l) o
+  leaf-next : {v l : ℕ} {o : Result} → countOf p ≢ c → v < countOf p → GrownExactly c (f .parts) (f .state) (newLeaf v l) o
       → Next s (tableGrown (f .state) o) (withLeaf p v l)
   leaf-next {v} {l} {o} n h e = record {
     proper = proper-leaf small (s .proper) n l h;
@@ -65,7 +65,7 @@ module _ {c : ℕ} {f : Fast} {p : PlainList} {stored : StoredList} {total joini
     count = node-count p v l;
   }
 
-  root-next : {r : ℕ} {o : Outcome} → countOf p ≢ c → r < countOf p → parentOf p r ≡ none → GrownExactly c (f .parts) (f .state) (newRoot r) o
+  root-next : {r : ℕ} {o : Result} → countOf p ≢ c → r < countOf p → parentOf p r ≡ none → GrownExactly c (f .parts) (f .state) (newRoot r) o
       → Next s (tableGrown (f .state) o) (withRoot p r)
   root-next {r} {o} n h t e = record {
     proper = proper-root small (s .proper) n h t;

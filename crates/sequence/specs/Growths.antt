@@ -14,13 +14,13 @@ use Rattle.rows.specs.PlainTree.{plain}
 use Rattle.rows.specs.CapacityLaws.{fits-told}
 use Rattle.rows.specs.StoredTree.{labelLimit}
 use Rattle.rows.specs.Rules.{numbered}
-use Rattle.growth.specs.declared.Grown.{Grown}
 use Rattle.growth.specs.declared.plan.Planned.{Planned}
 use Rattle.growth.specs.declared.plan.Planned.the-variants.{Refuse}
 use Rattle.growth.specs.Plan.{isLabel}
-use Rattle.growth.specs.Growth.{Outcome, grownBy}
+use Rattle.growth.specs.Outcome.{Outcome}
+use Rattle.growth.specs.Growth.{Result, grownBy}
 use Rattle.growth_laws.specs.Growth.{Growth, Named, named-root, parentOf}
-use Rattle.growth_laws.specs.Grown.{Grown as Grows, Started}
+use Rattle.growth_laws.specs.Grown.{Grown, Started}
 use Rattle.growth_laws.specs.GrownLaws.{extended-parent, extended-lone, parent-old, parent-new}
 use Rattle.growth_laws.specs.Renumbered.{rows}
 use Rattle.growth_laws.specs.Trees.{shape-of}
@@ -69,7 +69,7 @@ module _ {c : ℕ} {f : Fast} {p : PlainList} {stored : StoredList} {total joini
   under-begun (begins-root e) = rw (eq-eqb (countOf p) 0 (s .count ∙ e)) refl
 
   module _ {d : Table} {q : Call} where
-    stored-grown : {g : Growth} {h : ℕ} → Grows (tableIn f) d g h → Asks (tableIn f) q g
+    stored-grown : {g : Growth} {h : ℕ} → Grown (tableIn f) d g h → Asks (tableIn f) q g
         → Stores (parent d) (suc (f .state .count)) (storedBy p stored (told q) (node (countOf p)))
     stored-grown k a =
         let r = numbered (s .rules) (s .fits .most) in
@@ -80,9 +80,9 @@ module _ {c : ℕ} {f : Fast} {p : PlainList} {stored : StoredList} {total joini
         let r = numbered (s .rules) (s .fits .most) in
         stores-node (s .stored) (extended-parent r (k .extended)) (extended-lone r (k .extended) .parentNone ∙ under-begun a)
 
-  module _ (o : Outcome) where
+  module _ (o : Result) where
     -- the turn that a growth takes
-    abbrev turn : Grown → Turn
+    abbrev turn : Outcome → Turn
     turn y = record { reply = grownReply y; after = record { parts = o .parts; state = stateAfter (f .state) y } }
 
     pub grown-step : {q : Call} {g : Growth} {p′ : PlainList} → GrownExactly c (f .parts) (f .state) g o → Asks (tableIn f) q g

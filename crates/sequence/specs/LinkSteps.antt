@@ -22,9 +22,8 @@ use Rattle.growth.specs.Plan.{isLabel}
 use Rattle.link_laws.specs.Link.{Linkable, target}
 use Rattle.link_laws.specs.LinkLaws.{link-stored}
 use Rattle.link_laws.specs.Order.{isOfTree, treeRows}
-use Rattle.link.specs.declared.Linked.{Linked}
-use Rattle.link.specs.declared.Linked.the-variants.{Refused}
-use Rattle.link.specs.Link.{Outcome, outcome, linkBy}
+use Rattle.link.specs.Outcome.{Outcome, refused as notLinked}
+use Rattle.link.specs.Link.{Result, result, linkBy}
 use Rattle.link_exact.specs.LinkServed.{LinkedExactly, link-misfit, link-unknown-x, link-unknown-v, link-label, link-not-root, link-same-tree, link-served}
 use Rattle.plain_list.specs.PlainList.{PlainList, countOf, parentOf, withLink}
 use Rattle.plain_list.specs.PlainListLaws.{link-count, link-parent-root, link-parent-other}
@@ -75,10 +74,10 @@ module _ {c : ℕ} {f : Fast} {p : PlainList} {stored : StoredList} {total joine
     }
 
     -- the turn that it takes
-    abbrev turn : Outcome → Linked → Turn
+    abbrev turn : Result → Outcome → Turn
     turn o y = record { reply = linkReply y; after = record { parts = o .parts; state = f .state } }
 
-    linked-step : {o : Outcome} → x < countOf p → v < countOf p → parentOf p x ≡ none → rootIn p v ≢ x → LinkedExactly c (f .parts) (f .state) x v door o
+    linked-step : {o : Result} → x < countOf p → v < countOf p → parentOf p x ≡ none → rootIn p v ≢ x → LinkedExactly c (f .parts) (f .state) x v door o
         → StepStands c f p stored total joined (link x v door scratch) (record { reply = plainLinked; after = withLink p x v door; joined = treeCount p x })
         (afterLink (f .state) o)
     linked-step {o} h i top d e = rw (ap (turn o) (e .answered)) record {
@@ -129,7 +128,7 @@ module _ {c : ℕ} {f : Fast} {p : PlainList} {stored : StoredList} {total joine
     -- Refused
 
     link-refused : (r : Refusal) → plainOutcome c p (plainLink x v door (length scratch)) ≡ refusalOf (numberOf r) p
-        → linkBy (f .parts) (length scratch) (f .state) x v door ≡ outcome (f .parts) (Refused r)
+        → linkBy (f .parts) (length scratch) (f .state) x v door ≡ result (f .parts) (notLinked r)
         → StepStands c f p stored total joined (link x v door scratch) (plainOutcome c p (plainLink x v door (length scratch))) (step f (link x v door scratch))
     unfolding step
     link-refused r e i = steps-by s (link x v door scratch) (plainRefused (numberOf r)) (refused (numberOf r)) e

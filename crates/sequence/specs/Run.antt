@@ -3,22 +3,18 @@ use mathlib.Core.List.{List, [], _∷_}
 use Prim.Native.Nat.{ℕ, _+_}
 use lib.ListN.{length}
 use Rattle.rows.specs.declared.state.State.{State}
-use Rattle.rows.specs.Refusal.{numberOf}
 use Rattle.rows.specs.Row.{Parts}
 use Rattle.rows.specs.Table.{Table, tableOf}
 use Rattle.set_up.specs.Blank.{partsAfter}
-use Rattle.growth.specs.declared.Grown.{Grown}
-use Rattle.growth.specs.declared.Grown.the-variants.{Node, Refused as NotGrown}
-use Rattle.growth.specs.Growth.{Outcome as GrowthOutcome, addFirst, addLeaf, addRoot, addOver}
-use Rattle.link.specs.declared.Linked.{Linked}
-use Rattle.link.specs.declared.Linked.the-variants.{Under, Refused as NotLinked}
-use Rattle.link.specs.Link.{Outcome as LinkOutcome, linkBy}
+use Rattle.growth.specs.Outcome.{Outcome as GrowthOutcome, refusal as notGrown, node}
+use Rattle.growth.specs.Growth.{Result as Growth, addFirst, addLeaf, addRoot, addOver}
+use Rattle.link.specs.Outcome.{Outcome as LinkOutcome, refusal as notLinked, under}
+use Rattle.link.specs.Link.{Result as Link, linkBy}
 use Rattle.query.specs.Outcome.{Outcome as QuestionOutcome, refusal as noAnswer, answer}
 use Rattle.query.specs.Question.{question as ask}
 use Rattle.alike.specs.Outcome.{Outcome as AlikeOutcome, refusal as noValue, value}
 use Rattle.alike.specs.Alike.{alike as compare}
-use Rattle.inspect.specs.declared.Inspected.{Inspected}
-use Rattle.inspect.specs.declared.Inspected.the-variants.{Passes, Refused as NotInspected}
+use Rattle.inspect.specs.Outcome.{Outcome as InspectionOutcome, refusal as notInspected, passes}
 use Rattle.inspect.specs.Inspection.{inspection as inspect}
 use Rattle.sequence.specs.Calls.{Call, first, leaf, root, rootOver, link, question, alike, inspection, Reply, refused, grown, linked, answered, same, inspected}
 
@@ -45,24 +41,24 @@ abbrev pub replies : Fast → Reply → Turn
 replies f r = record { reply = r; after = f }
 
 -- a growth: the count as it returned it, after a refusal as it went in
-abbrev pub grownReply : Grown → Reply
-grownReply (Node n) = grown (n .node) (n .rows)
-grownReply (NotGrown r) = refused (numberOf r)
+abbrev pub grownReply : GrowthOutcome → Reply
+grownReply (notGrown n) = refused n
+grownReply (node c n k) = grown n k
 
-abbrev pub stateAfter : State → Grown → State
-stateAfter s (Node n) = n .state
-stateAfter s (NotGrown r) = s
+abbrev pub stateAfter : State → GrowthOutcome → State
+stateAfter s (notGrown n) = s
+stateAfter s (node c n k) = record { count = c }
 
-abbrev pub afterGrowth : State → GrowthOutcome → Turn
-afterGrowth s o = record { reply = grownReply (o .grown); after = record { parts = o .parts; state = stateAfter s (o .grown) } }
+abbrev pub afterGrowth : State → Growth → Turn
+afterGrowth s g = record { reply = grownReply (g .outcome); after = record { parts = g .parts; state = stateAfter s (g .outcome) } }
 
 -- a link keeps the count
-abbrev pub linkReply : Linked → Reply
-linkReply (Under l) = linked (l .rows)
-linkReply (NotLinked r) = refused (numberOf r)
+abbrev pub linkReply : LinkOutcome → Reply
+linkReply (notLinked n) = refused n
+linkReply (under k) = linked k
 
-abbrev pub afterLink : State → LinkOutcome → Turn
-afterLink s o = record { reply = linkReply (o .linked); after = record { parts = o .parts; state = s } }
+abbrev pub afterLink : State → Link → Turn
+afterLink s l = record { reply = linkReply (l .outcome); after = record { parts = l .parts; state = s } }
 
 abbrev pub questionReply : QuestionOutcome → Reply
 questionReply (noAnswer n) = refused n
@@ -72,9 +68,9 @@ abbrev pub alikeReply : AlikeOutcome → Reply
 alikeReply (noValue n) = refused n
 alikeReply (value b) = same b
 
-abbrev pub inspectionReply : Inspected → Reply
-inspectionReply (Passes b) = inspected b
-inspectionReply (NotInspected r) = refused (numberOf r)
+abbrev pub inspectionReply : InspectionOutcome → Reply
+inspectionReply (notInspected n) = refused n
+inspectionReply (passes b) = inspected b
 
 -- one call
 unfoldable pub step : Fast → Call → Turn

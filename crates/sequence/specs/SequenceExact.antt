@@ -9,7 +9,7 @@ use Rattle.rows.specs.Capacity.{Fits}
 use Rattle.rows.specs.Rules.{Rules}
 use Rattle.rows.specs.Table.{label, parent}
 use Rattle.rows.specs.PlainTree.{plain}
-use Rattle.set_up.specs.declared.Made.the-variants.{Empty}
+use Rattle.set_up.specs.Outcome.{empty}
 use Rattle.set_up.specs.Blank.{setUp}
 use Rattle.set_up.specs.BlankLaws.{set-up-served}
 use Rattle.plain_list.specs.PlainList.{PlainList, emptyList, countOf}
@@ -41,7 +41,7 @@ rowsPerJoining = 120
 -- the calls, one after another, from what set-up leaves in parts of capacity c
 pub record SequenceExact (c : ℕ) (parts : Parts) (calls : List Call) : Type 0 where
   -- set-up is never refused
-  pub setUp : setUp parts ≡ Empty (record { count = 0 })
+  pub setUp : setUp parts ≡ empty 0
   -- every reply is the plain list's
   pub replies : AllAgree (plainRun c emptyList (toldAll calls) .replies) (run (start parts) calls .replies)
   -- each question draws on few rows, each served growth answers the rows at or below its head in the stored tree, each served link

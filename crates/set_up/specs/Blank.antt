@@ -12,9 +12,8 @@ use Rattle.rows.specs.declared.capacity.Fit.the-variants.{Capacity, Misfit}
 use Rattle.rows.specs.Layout.{fieldStride, sizePlace, rootPlace}
 use Rattle.rows.specs.Row.{Parts}
 use Rattle.rows.specs.Capacity.{capacityOf}
-use Rattle.rows.specs.declared.refusal.Refusal.the-variants as refusal
-use Rattle.set_up.specs.declared.Made.{Made}
-use Rattle.set_up.specs.declared.Made.the-variants.{Empty, Refused}
+use Rattle.rows.specs.declared.refusal.Refusal.the-variants as refusals
+use Rattle.set_up.specs.Outcome.{Outcome, empty, refused}
 
 -- the fields before the size are links, and so is the root
 abbrev pub blankField : ℕ → ℕ
@@ -30,11 +29,11 @@ blank t = record {
 }
 
 -- what set-up answers, by what the parts fit
-abbrev pub made : Fit → Made
-made (Capacity c) = Empty (record { count = 0 })
-made Misfit = Refused refusal.Misfit
+abbrev pub made : Fit → Outcome
+made (Capacity c) = empty 0
+made Misfit = refused refusals.Misfit
 
-unfoldable pub setUp : Parts → Made
+unfoldable pub setUp : Parts → Outcome
 setUp t = made (capacityOf t)
 
 -- and what the parts are then

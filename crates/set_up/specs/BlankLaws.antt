@@ -14,12 +14,12 @@ use Rattle.rows.specs.Capacity.{Fits, capacityOf}
 use Rattle.rows.specs.CapacityLaws.{capacity-fits}
 use Rattle.rows.specs.Table.{Table}
 use Rattle.rows.specs.Rules.{Rules}
-use Rattle.rows.specs.declared.refusal.Refusal.the-variants as refusal
-use Rattle.set_up.specs.declared.Made.the-variants.{Empty, Refused}
+use Rattle.rows.specs.declared.refusal.Refusal.the-variants as refusals
+use Rattle.set_up.specs.Outcome.{empty, refused}
 use Rattle.set_up.specs.Blank.{blankField, blank, made, setUp, leaves, partsAfter}
 
 -- the parts do not fit: nothing is changed
-pub set-up-misfit : (t : Parts) (f : Fit) → f ≡ capacityOf t → f ≡ Misfit → (Refused refusal.Misfit ≡ setUp t) × (t ≡ partsAfter t)
+pub set-up-misfit : (t : Parts) (f : Fit) → f ≡ capacityOf t → f ≡ Misfit → (refused refusals.Misfit ≡ setUp t) × (t ≡ partsAfter t)
 unfolding setUp partsAfter
 set-up-misfit t f e m = (ap made (sym m ∙ e), ap (λ (k : Fit). leaves k t) (sym m ∙ e))
 
@@ -27,12 +27,12 @@ set-up-misfit t f e m = (ap made (sym m ∙ e), ap (λ (k : Fit). leaves k t) (s
 pub set-up-fits : (t : Parts) (c : ℕ) (f : Fit) {fields numbers : List ℕ} {levels : List ℤ} {ancestors : List ℕ} → f ≡ capacityOf t → f ≡ Capacity c
     → fields ≡ tabulate blankField (length (t .fields)) → numbers ≡ tabulate (λ _. 0) (length (t .numbers))
     → levels ≡ tabulate (λ _. pos 0) (length (t .levels)) → ancestors ≡ tabulate (λ _. none) (length (t .ancestors))
-    → (Empty (record { count = 0 }) ≡ setUp t) × (partsOf fields numbers levels ancestors ≡ partsAfter t)
+    → (empty 0 ≡ setUp t) × (partsOf fields numbers levels ancestors ≡ partsAfter t)
 unfolding setUp partsAfter blank
 set-up-fits t c f e m a b l d = (ap made (sym m ∙ e), (rw (a, b, l, d) refl) ∙ ap (λ (k : Fit). leaves k t) (sym m ∙ e))
 
 -- parts that fit are never refused
-pub set-up-served : (t : Parts) (c : ℕ) → Fits c t → setUp t ≡ Empty (record { count = 0 })
+pub set-up-served : (t : Parts) (c : ℕ) → Fits c t → setUp t ≡ empty 0
 unfolding setUp
 set-up-served t c f = ap made (sym (capacity-fits t (rw (← f .levels) at f)))
 

@@ -11,6 +11,7 @@ ghost use lib.ListN.{length};
 ghost use lib.IntN.{pos};
 ghost use Rattle.laws.specs.Tabulate.{tabulate};
 ghost use Rattle.rows.specs.Row.{partsOf};
+ghost use Rattle.set_up.specs.Outcome.{outcomeOf};
 ghost use Rattle.set_up.specs.Blank.{blankField, setUp, partsAfter};
 
 pub enum Made {
@@ -79,7 +80,7 @@ pub fn set_up(
     levels: &mut [i32],
     ancestors: &mut [u16],
 ) -> Made
-    ensures outcome { λ r. ⌜ r ≡ setUp (partsOf (now (fields .entry)) (now (numbers .entry)) (now (levels .entry)) (now (ancestors .entry))) ⌝ }
+    ensures outcome { λ r. ⌜ outcomeOf r ≡ setUp (partsOf (now (fields .entry)) (now (numbers .entry)) (now (levels .entry)) (now (ancestors .entry))) ⌝ }
     ensures after { λ _. ⌜ partsOf (now (fields .exit)) (now (numbers .exit)) (now (levels .exit)) (now (ancestors .exit)) ≡ partsAfter (partsOf (now (fields .entry)) (now (numbers .entry)) (now (levels .entry)) (now (ancestors .entry))) ⌝ }
 {
     match rows::capacity::capacity(fields, numbers, levels, ancestors) {
