@@ -6,9 +6,6 @@ use std::collections::BTreeSet;
 use crate::engine::{Grown, Reply, ENTRIES, NONE};
 use crate::reading::{Cause, Reading, Row, LEVELS, LIMIT};
 
-/// Whether a growth looks at the ancestor entries of the head's upper row before its first store.
-pub const GROWTH_CHECKS_ENTRIES: bool = false;
-
 /// A leaf that is not stored yet: its row, its parent, and the child before it.
 struct Leaf {
     row: u16,
@@ -145,10 +142,7 @@ impl Reading<'_> {
             None => 0,
         };
         self.must(start + 5 * rows.pow(4) <= LIMIT, Cause::NewEnd)?;
-        match upper {
-            Some(u) if GROWTH_CHECKS_ENTRIES => self.has_entries(u),
-            _ => Ok(()),
-        }
+        upper.map_or(Ok(()), |u| self.has_entries(u))
     }
 
     /// The ancestor entries of a head's upper row, which the head's are made from, are none or rows in use.

@@ -4,7 +4,6 @@
 use std::collections::BTreeMap;
 
 use crate::engine::{Grown, Reply, Table, ENTRIES, FIELDS, NONE, NUMBERS, TREE};
-use crate::growing::GROWTH_CHECKS_ENTRIES;
 use crate::lent::Lent;
 use crate::lists::{List, MIXES, SHAPES};
 use crate::places::damaged;
@@ -110,7 +109,7 @@ impl Met {
     /// Every kind of call met every outcome that it has, every cause was met, and damage changed answers.
     fn is_whole(&self) -> bool {
         let kinds = KINDS.iter().all(|(kind, codes)| codes.iter().all(|code| self.outcomes.contains_key(&(*kind, *code))));
-        kinds && self.causes.len() == Cause::Entries as usize + GROWTH_CHECKS_ENTRIES as usize && self.changed > 0
+        kinds && self.causes.len() == Cause::Entries as usize + 1 && self.changed > 0
     }
 }
 
