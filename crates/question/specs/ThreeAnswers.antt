@@ -1,7 +1,7 @@
 -- 01: "a question takes three stored answers, for x and y, x and source, y and source; the shared image is the deepest in the stored tree". The code
 -- takes one or two of them; on every table that passes inspection its answer is the deepest of the three.
-use mathlib.Core.Path.{_≡_, refl, sym, _∙_}
-use mathlib.Core.Logic.{_⊎_, inl, inr, _≢_}
+use mathlib.Core.Path.{_≡_, sym, _∙_}
+use mathlib.Core.Logic.{_⊎_, inl, inr}
 use Prim.Native.Nat.{ℕ, _≤_, _<_}
 use native.Mathlib.Omega.{arith}
 use Rattle.laws.specs.Test.{says-true, says-false, says-eqb}
