@@ -1,10 +1,11 @@
 //! Damaged tables: every call ends, touches no guard, and on a refusal stores nothing (`engine` checks this at every call);
-//! inspection says what the naive rules say; a table that passes answers as its plain tree does.
+//! inspection says what the naive rules say, questions and growths what the naive reading says; a table that passes answers as its plain tree does.
 
 use crate::engine::{Grown, Reply, Table, ENTRIES, FIELDS, NONE, NUMBERS, ROOT, TREE};
 use crate::lent::Lent;
 use crate::lists::{List, MIXES, SHAPES};
 use crate::random::Random;
+use crate::reading::Reading;
 use crate::rules;
 use crate::tally::{check, equal};
 use crate::variants;
@@ -112,77 +113,6 @@ fn damaged(pool: &[Table], random: &mut Random) -> Table {
     table
 }
 
-/// What is refused before a table's rows are looked at, beside misfits: unknown nodes, then labels.
-fn refusal_of(t: &Table, nodes: &[u16], label: u16) -> Option<u16> {
-    if nodes.iter().any(|x| *x >= t.count) {
-        Some(1)
-    } else if !(1..=9999).contains(&label) {
-        Some(5)
-    } else {
-        None
-    }
-}
-
-/// The tree that entry 121 of x names, as 10, 11 and 12 read it: 4 where it is no row in use.
-fn tree_of(t: &Table, x: u16) -> Reply<u16> {
-    let tree = t.ancestors.part()[ENTRIES * x as usize + TREE];
-    if tree < t.count {
-        Ok(tree)
-    } else {
-        Err(4)
-    }
-}
-
-/// Whether x is the root that its tree records: 4 where none in use is recorded, else 10.
-fn is_root(t: &Table, x: u16) -> Reply<()> {
-    match t.fields.part()[FIELDS * tree_of(t, x)? as usize + ROOT] {
-        root if root >= t.count => Err(4),
-        root if root != x => Err(10),
-        _ => Ok(()),
-    }
-}
-
-/// A table with more nodes than rows is refused by 4 before its rows are read.
-fn has_room_for_count(t: &Table) -> Reply<()> {
-    if t.count as usize <= t.levels.part().len() {
-        Ok(())
-    } else {
-        Err(4)
-    }
-}
-
-fn root_refusal(t: &Table, x: u16) -> Reply<()> {
-    has_room_for_count(t)?;
-    is_root(t, x)
-}
-
-fn link_refusal(t: &Table, x: u16, v: u16) -> Reply<()> {
-    root_refusal(t, x)?;
-    if tree_of(t, x)? == tree_of(t, v)? {
-        Err(11)
-    } else {
-        Ok(())
-    }
-}
-
-fn question_refusal(t: &Table, x: u16, y: u16) -> Reply<()> {
-    has_room_for_count(t)?;
-    if tree_of(t, x)? == tree_of(t, y)? {
-        Ok(())
-    } else {
-        Err(12)
-    }
-}
-
-/// Whether a refusal is the one that was decided, or else refusal 4.
-fn allowed<T>(reply: &Reply<T>, decided: Option<u16>) -> bool {
-    match (reply, decided) {
-        (Err(code), Some(decided)) => *code == decided,
-        (Err(code), None) => *code == 4,
-        (Ok(_), decided) => decided.is_none(),
-    }
-}
-
 fn node(count: u16, random: &mut Random) -> u16 {
     if random.one_in(12) {
         random.word() as u16
@@ -194,7 +124,7 @@ fn node(count: u16, random: &mut Random) -> u16 {
 /// A node that mostly is the root of its tree, where that can be told.
 fn root(t: &Table, random: &mut Random) -> u16 {
     let x = node(t.count, random);
-    let told = x < t.count && has_room_for_count(t).is_ok() && !random.one_in(6);
+    let told = x < t.count && t.count as usize <= t.levels.part().len() && !random.one_in(6);
     if told {
         t.root_of(x)
     } else {
@@ -202,9 +132,9 @@ fn root(t: &Table, random: &mut Random) -> u16 {
     }
 }
 
-/// A growth that was refused as it may be, and on a table that passes is served or refused as the plain list does it.
-fn grown(call: &str, after: &Table, good: Option<Reply<u16>>, found: Reply<Grown>, decided: Option<u16>) {
-    check(allowed(&found, decided), || format!("{call} gave {found:?}, decided {decided:?}"));
+/// A growth that is as it was read, and on a table that passes is served or refused as the plain list does it.
+fn grown(call: &str, after: &Table, good: Option<Reply<u16>>, found: Reply<Grown>, read: Reply<Grown>) {
+    equal(found, read, || format!("{call} on a damaged table"));
     if let Some(expected) = good {
         equal(found.map(|g| g.node), expected, || format!("{call} on a table that passes"));
         check(found.is_err() || rules::passes(after), || format!("{call} broke the rules"));
@@ -215,25 +145,22 @@ fn grow(table: &Table, good: bool, random: &mut Random) {
     let capacity = table.levels.part().len();
     let length = if random.one_in(12) { capacity + 1 } else { capacity };
     let scratch = Lent::new(length, random.word() as u16);
-    let misfit = (length != capacity).then_some(3);
-    let full = (table.count as usize == capacity).then_some(2);
     let plain = good.then(|| rules::plain(table));
 
     let (mut leaf, parent, label) = (table.clone(), node(table.count, random), [1, 7, 9999, 10000][random.below(4)]);
     let found = leaf.add_leaf(&scratch, parent, label);
     let expected = plain.clone().map(|mut p| p.add_leaf(length, parent, label));
-    grown("leaf", &leaf, expected, found, misfit.or(refusal_of(table, &[parent], label)).or(full));
+    grown("leaf", &leaf, expected, found, Reading::of(table).add_leaf(length, parent, label));
 
     let mut first = table.clone();
     let found = first.add_first(&scratch);
     let expected = plain.clone().map(|mut p| p.add_first(length));
-    grown("first node", &first, expected, found, misfit.or(full));
+    grown("first node", &first, expected, found, Reading::of(table).add_first(length));
 
     let (mut over, x) = (table.clone(), root(table, random));
     let found = over.add_root(&scratch, x);
     let expected = plain.clone().map(|mut p| p.add_root(length, x));
-    let decided = misfit.or(refusal_of(table, &[x], 1)).or_else(|| root_refusal(table, x).err()).or(full);
-    grown("new root", &over, expected, found, decided);
+    grown("new root", &over, expected, found, Reading::of(table).add_root(length, x));
 }
 
 /// A link is served exactly where nothing else refuses it and inspection passes.
@@ -243,9 +170,8 @@ fn link(table: &Table, good: bool, random: &mut Random) {
     let mut scratch = Lent::new(length, random.word() as u16);
     let (mut linked, x, v, label) = (table.clone(), root(table, random), node(table.count, random), [1, 9, 9999, 0][random.below(4)]);
     let found = linked.link(&mut scratch, x, v, label);
-    let misfit = (length != capacity).then_some(3);
-    let decided = misfit.or(refusal_of(table, &[x, v], label)).or_else(|| link_refusal(table, x, v).err());
-    equal(found.err(), decided.or((!good).then_some(4)), || format!("link {x} {v}"));
+    let read = Reading::of(table).link(length, x, v, label);
+    equal(found.err(), read.err().or((!good).then_some(4)), || format!("link {x} {v}"));
     if good {
         let mut plain = rules::plain(table);
         let expected = plain.link(length, x, v, label);
@@ -257,10 +183,9 @@ fn link(table: &Table, good: bool, random: &mut Random) {
 
 fn ask(table: &Table, good: bool, random: &mut Random) {
     let (x, y) = (node(table.count, random), node(table.count, random));
-    let decided = refusal_of(table, &[x, y], 1).or_else(|| question_refusal(table, x, y).err());
     let (query, alike) = (table.query(x, y), table.alike(x, y));
-    check(allowed(&query, decided), || format!("question gave {query:?}, decided {decided:?}"));
-    check(allowed(&alike, decided), || format!("alike gave {alike:?}, decided {decided:?}"));
+    equal(query, Reading::of(table).question(x, y), || format!("question {x} {y} on a damaged table"));
+    equal(alike, Reading::of(table).alike(x, y), || format!("alike {x} {y} on a damaged table"));
     if good {
         let plain = rules::plain(table);
         equal(query, plain.query(x, y), || format!("question {x} {y} on a table that passes"));

@@ -9,8 +9,24 @@ pub const FIELDS: usize = 12;
 pub const NUMBERS: usize = 2;
 pub const ENTRIES: usize = 122;
 
-/// The place of a tree's root in its first row's fields, and the ancestor entry that is that row.
+/// The places of a row's fields; the root is that of the tree, in its first row.
+pub const PARENT: usize = 0;
+pub const FIRST: usize = 1;
+pub const LAST: usize = 2;
+pub const NEXT: usize = 3;
+pub const UPPER: usize = 4;
+pub const PATH: usize = 5;
+pub const SIZE: usize = 6;
+pub const SET_SIZE: usize = 7;
+pub const DEPTH: usize = 8;
+pub const LABEL: usize = 9;
 pub const ROOT: usize = 10;
+
+/// The places of a row's numbers.
+pub const START: usize = 0;
+pub const NEXT_FREE: usize = 1;
+
+/// The ancestor entry that is the first row of the tree.
 pub const TREE: usize = 121;
 
 /// The fields of a row that set-up leaves.

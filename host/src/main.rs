@@ -2,16 +2,21 @@
 //! logs, written lists, and the cases of documents 01 and 02.
 //! Prints a line for each group and, last, how many passed; the exit status says whether all did.
 
+mod asking;
 mod cases;
 mod damage;
 mod engine;
+mod growing;
 mod hand;
 mod lent;
 mod lists;
 mod logs;
+mod places;
 mod plain;
 mod powers;
 mod random;
+mod reading;
+mod refusals;
 mod rules;
 mod stored;
 mod tally;
@@ -22,7 +27,7 @@ mod vectors;
 use std::process::ExitCode;
 
 /// A group of tests, and what it says of itself beside its counts.
-const GROUPS: [(&str, fn() -> String); 15] = [
+const GROUPS: [(&str, fn() -> String); 17] = [
     ("capacities 0, 1, 32,768 and 32,769", cases::capacities),
     ("parts that do not fit", cases::misfits),
     ("labels and the last node", cases::limits),
@@ -34,6 +39,8 @@ const GROUPS: [(&str, fn() -> String); 15] = [
     ("two trees of 16,384 nodes, linked", lists::halves),
     ("damaged tables", damage::tables),
     ("tables that no list of calls makes", damage::unreachable),
+    ("good tables by the naive reading", refusals::undamaged),
+    ("which rows are read of damaged tables", refusals::damage),
     ("byte trees that do not fit", trees::misfits),
     ("lists of calls on byte trees", trees::lists),
     ("damaged byte trees", trees::damaged),

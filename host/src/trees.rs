@@ -4,9 +4,10 @@
 use crate::engine::{Grown, Reply, Table, NONE};
 use crate::lent::Lent;
 use crate::random::Random;
+use crate::reading::Reading;
 use crate::tally::{check, equal};
 
-const CAPACITY: usize = 128;
+pub const CAPACITY: usize = 128;
 const BYTES: usize = 36_866;
 const LISTS: usize = 12;
 const DAMAGED: usize = 10_000;
@@ -118,8 +119,17 @@ fn grown(out: &[u8]) -> [u16; 2] {
     [u16::from_le_bytes([out[0], out[1]]), u16::from_le_bytes([out[2], out[3]])]
 }
 
+/// Document 01's new root on a table of capacity 128, kept as bytes.
+pub fn add_root_to(table: &Table) -> Reply<Grown> {
+    let bytes = encode(table);
+    let mut tree = Tree::of(&bytes);
+    let reply = tree.add_root(4);
+    check(reply.is_ok() || tree.bytes.part() == bytes, || format!("new root on bytes gave {reply:?} and stored"));
+    reply.map(|[node, rows]| Grown { node, rows })
+}
+
 /// The new root of the table form over the first tree's, which a byte tree does not name; none where the table form has no such call, since what row 0
-/// records is no root.
+/// records is no root of its own tree.
 fn add_root(table: &mut Table, scratch: &Lent<u16>) -> Option<Reply<Grown>> {
     if table.count == 0 {
         return Some(table.add_first(scratch));
@@ -143,7 +153,8 @@ fn step(tree: &mut Tree, random: &mut Random) {
     let (found, expected) = if table.count == 0 || random.one_in(10) {
         let found = tree.add_root(4);
         let Some(expected) = add_root(&mut table, &scratch) else {
-            check(found.map_or_else(|code| code == 4, |_| true), || format!("new root of a damaged byte tree gave {found:?}"));
+            let read = Reading::of(&table).add_root_first_tree(CAPACITY);
+            equal(found, read.map(|g| [g.node, g.rows]), || format!("new root of a damaged byte tree of {count} nodes"));
             return;
         };
         (found, expected)

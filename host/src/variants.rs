@@ -1,18 +1,8 @@
 //! Tables that no list of calls makes: the trees of a good table with other paths, set sizes and spans, at the edges of the rules.
 
-use crate::engine::{Table, ENTRIES, FIELDS, NONE, NUMBERS, ROOT};
+use crate::engine::{Table, DEPTH, ENTRIES, FIELDS, FIRST, LAST, NEXT, NONE, NUMBERS, PARENT, PATH, ROOT, SET_SIZE, SIZE, UPPER};
 use crate::powers::POWERS;
 use crate::random::Random;
-
-const PARENT: usize = 0;
-const FIRST: usize = 1;
-const LAST: usize = 2;
-const NEXT: usize = 3;
-const UPPER: usize = 4;
-const PATH: usize = 5;
-const SIZE: usize = 6;
-const SET_SIZE: usize = 7;
-const DEPTH: usize = 8;
 
 fn get(t: &Table, v: usize, k: usize) -> u16 {
     t.fields.part()[FIELDS * v + k]

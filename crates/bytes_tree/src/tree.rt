@@ -15,21 +15,27 @@ ghost use Rattle.rows.specs.Row.{partsOf};
 ghost use Rattle.rows.specs.Capacity.{Fits};
 ghost use Rattle.bytes_tree.specs.Tree.{treeRows, treeBytes, stateIn, partsIn, encoded, InBytes};
 
-// The rows of a tree.
+// The rows of a tree, and the numbers of each of its parts.
 pub const ROWS: usize = 128;
+
+pub const FIELD_COUNT: usize = ROWS * layout::FIELDS;
+
+pub const NUMBER_COUNT: usize = ROWS * layout::NUMBERS;
+
+pub const ENTRY_COUNT: usize = ROWS * layout::ENTRIES;
 
 // The places of its columns, one after another, and the bytes of all of it.
 const COUNT: usize = 0;
 
 const FIELDS: usize = COUNT + 2;
 
-const NUMBERS: usize = FIELDS + ROWS * layout::FIELDS * 2;
+const NUMBERS: usize = FIELDS + FIELD_COUNT * 2;
 
-const LEVELS: usize = NUMBERS + ROWS * layout::NUMBERS * 8;
+const LEVELS: usize = NUMBERS + NUMBER_COUNT * 8;
 
 const ANCESTORS: usize = LEVELS + ROWS * 4;
 
-pub const BYTES: usize = ANCESTORS + ROWS * layout::ENTRIES * 2;
+pub const BYTES: usize = ANCESTORS + ENTRY_COUNT * 2;
 
 pub fn read_state(b: &[u8]) -> State
     requires { ⌜ length (now b) ≡ treeBytes ⌝ }

@@ -1,5 +1,9 @@
 // Byte trees of capacity 128: the bytes are read into a table on the stack, and written back where a growth was served.
 use bytes_tree::tree::BYTES;
+use bytes_tree::tree::ENTRY_COUNT;
+use bytes_tree::tree::FIELD_COUNT;
+use bytes_tree::tree::NUMBER_COUNT;
+use bytes_tree::tree::ROWS;
 use bytes_tree::tree::read_parts;
 use bytes_tree::tree::read_state;
 use bytes_tree::tree::write_tree;
@@ -76,10 +80,10 @@ pub extern "C" fn nca_set_up(tree: &mut [u8]) -> u16
     if tree.len() != BYTES {
         return number_of(Refusal::Misfit);
     }
-    let mut fields = [0u16; 1536];
-    let mut numbers = [0u64; 256];
-    let mut levels = [0i32; 128];
-    let mut ancestors = [0u16; 15616];
+    let mut fields = [0u16; FIELD_COUNT];
+    let mut numbers = [0u64; NUMBER_COUNT];
+    let mut levels = [0i32; ROWS];
+    let mut ancestors = [0u16; ENTRY_COUNT];
     read_parts(tree, &mut fields, &mut numbers, &mut levels, &mut ancestors);
     let made = set_up::set_up(&mut fields, &mut numbers, &mut levels, &mut ancestors);
     keep_made(tree, &fields, &numbers, &levels, &ancestors, made)
@@ -97,10 +101,10 @@ pub extern "C" fn nca_add_leaf(tree: &mut [u8], parent: u16, label: u16, out: &m
     if out.len() != 4 {
         return number_of(Refusal::Misfit);
     }
-    let mut fields = [0u16; 1536];
-    let mut numbers = [0u64; 256];
-    let mut levels = [0i32; 128];
-    let mut ancestors = [0u16; 15616];
+    let mut fields = [0u16; FIELD_COUNT];
+    let mut numbers = [0u64; NUMBER_COUNT];
+    let mut levels = [0i32; ROWS];
+    let mut ancestors = [0u16; ENTRY_COUNT];
     read_parts(tree, &mut fields, &mut numbers, &mut levels, &mut ancestors);
     let scratch = [0u16; 128];
     let state = read_state(tree);
@@ -130,10 +134,10 @@ pub extern "C" fn nca_add_root(tree: &mut [u8], out: &mut [u8]) -> u16
     if out.len() != 4 {
         return number_of(Refusal::Misfit);
     }
-    let mut fields = [0u16; 1536];
-    let mut numbers = [0u64; 256];
-    let mut levels = [0i32; 128];
-    let mut ancestors = [0u16; 15616];
+    let mut fields = [0u16; FIELD_COUNT];
+    let mut numbers = [0u64; NUMBER_COUNT];
+    let mut levels = [0i32; ROWS];
+    let mut ancestors = [0u16; ENTRY_COUNT];
     read_parts(tree, &mut fields, &mut numbers, &mut levels, &mut ancestors);
     let scratch = [0u16; 128];
     let state = read_state(tree);
@@ -160,10 +164,10 @@ pub extern "C" fn nca_query(tree: &[u8], x: u16, y: u16, out: &mut [u8]) -> u16
     if out.len() != 16 {
         return number_of(Refusal::Misfit);
     }
-    let mut fields = [0u16; 1536];
-    let mut numbers = [0u64; 256];
-    let mut levels = [0i32; 128];
-    let mut ancestors = [0u16; 15616];
+    let mut fields = [0u16; FIELD_COUNT];
+    let mut numbers = [0u64; NUMBER_COUNT];
+    let mut levels = [0i32; ROWS];
+    let mut ancestors = [0u16; ENTRY_COUNT];
     read_parts(tree, &mut fields, &mut numbers, &mut levels, &mut ancestors);
     let state = read_state(tree);
     let answered = query::characteristic_ancestors(

@@ -17,6 +17,7 @@ use Rattle.plain_list.specs.PlainListLaws.{node-count, root-count}
 use Rattle.plain_list.specs.PlainStep.{leaf as plainLeaf, root as plainRoot, question as plainQuestion, alike as plainAlike}
 use Rattle.plain_list.specs.PlainStep.{PlainReply, refused as plainRefused, node, answered as plainAnswered, same as plainSame}
 use Rattle.plain_list.specs.PlainStep.{PlainOutcome, replies, refusalOf, unless, grows, isLabel, hasRoom, bothKnown, rootIn, asked as askedOf, plainOutcome}
+use Rattle.plain_list.specs.StoredList.{StoredList}
 use Rattle.sequence.specs.Calls.{Call, leaf, root, question, alike, told, Reply, refused, grown}
 use Rattle.sequence.specs.Run.{Fast, tableIn, Turn, step, run, rowsIn, totalIn}
 use Rattle.sequence.specs.Agrees.{Agrees, refusals, nodes, links, answers, alikes, pass}
@@ -113,8 +114,8 @@ record Told (f : Fast) (q : Call) (o : PlainOutcome) (u : Turn) : Type 0 where
   one : OneTree (tableIn (u .after))
   printed : printedBy q u ≡ printed (letterOf q) (levelIn (o .after)) (withRows (o .reply) (rowsIn (u .reply)))
 
-module _ {f : Fast} {p : PlainList} {total joined : ℕ} (s : Stands rows f p total joined) (o : OneTree (tableIn f)) where
-  renumbers-one : {q : Call} {k : ℕ} {d : Table} → Logged q → Renumbers (tableIn f) d k q → OneTree d
+module _ {f : Fast} {p : PlainList} {stored : StoredList} {total joined : ℕ} (s : Stands rows f p stored total joined) (o : OneTree (tableIn f)) where
+  renumbers-one : {l : StoredList} {q : Call} {k : ℕ} {d : Table} → Logged q → Renumbers l (tableIn f) d k q → OneTree d
   renumbers-one g (growth h a k e) = one-grown (numbered (s .rules) (s .fits .most)) k o
   renumbers-one a-root (start (begins-root z) k e) = one-started (numbered (s .rules) (s .fits .most)) k z
 
@@ -123,7 +124,7 @@ module _ {f : Fast} {p : PlainList} {total joined : ℕ} (s : Stands rows f p to
       → printedBy q u ≡ printed (letterOf q) (levelIn (r .after)) (u .reply) → Told f q r u
   told-by {q} {r} a i e = record { one = i; printed = e ∙ ap (printed (letterOf q) (levelIn (r .after))) (agrees-rows a) }
 
-  told-growth : {q : Call} {r : PlainOutcome} {u : Turn} → Logged q → GrowthOutcome p r → StepStands rows f total joined q r u → Told f q r u
+  told-growth : {q : Call} {r : PlainOutcome} {u : Turn} → Logged q → GrowthOutcome p r → StepStands rows f p stored total joined q r u → Told f q r u
   told-growth {q} {u = u} g (not-grown n) e =
       let z = agrees-refused (e .exact .agrees) in
       told-by (e .exact .agrees) (rw (e .exact .kept n z) o) (rw z)
@@ -134,7 +135,7 @@ module _ {f : Fast} {p : PlainList} {total joined : ℕ} (s : Stands rows f p to
       let l = level-plain (t .rules) (t .fits .most) i (t .count) (t .shows) (countOf p) (omega (arith, t .count)) in
       told-by (e .exact .agrees) i (rw (n .is, l))
 
-  told-asked : {q : Call} {r : PlainOutcome} {u : Turn} → Plain (r .reply) → u .after ≡ f → StepStands rows f total joined q r u → Told f q r u
+  told-asked : {q : Call} {r : PlainOutcome} {u : Turn} → Plain (r .reply) → u .after ≡ f → StepStands rows f p stored total joined q r u → Told f q r u
   told-asked {q} {r} i z e = told-by (e .exact .agrees) (rw z o) (agrees-still i (e .exact .agrees) (letterOf q) _ (levelIn (r .after)))
 
   told-step : {q : Call} → Logged q → Told f q (plainOutcome rows p (told q)) (step f q)
@@ -150,7 +151,7 @@ rows-sum [] = refl
 rows-sum (r ∷ rs) = ap (λ (n : ℕ). rowsIn r + n) (rows-sum rs)
 
 -- all replies
-pub turns-plain : {f : Fast} {p : PlainList} {total joined : ℕ} → Stands rows f p total joined → OneTree (tableIn f) → {qs : List Call} → AllLogged qs
+pub turns-plain : {f : Fast} {p : PlainList} {stored : StoredList} {total joined : ℕ} → Stands rows f p stored total joined → OneTree (tableIn f) → {qs : List Call} → AllLogged qs
     → turnsFrom f qs ≡ repliesFrom p qs (rowsOf (run f qs .replies))
 unfolding turnsFrom repliesFrom run rowsOf
 turns-plain s o none-logged = refl

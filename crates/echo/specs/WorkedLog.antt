@@ -36,6 +36,7 @@ use Rattle.growth.specs.Good.{isGood}
 use Rattle.growth.specs.Level.{levelOf}
 use Rattle.growth.specs.Chain.{outgrownAt, topFrom, raisedAt, raised}
 use Rattle.growth.specs.CheckWalk.{isReadable, entered, leftRow, checkTurn, checkWalk}
+use Rattle.growth.specs.Copied.{areLinks, copiesLinks}
 use Rattle.growth.specs.Attach.{firstOf, firstAfter, nextAfter, parentAfter, newLinks, newValues, linked, attached}
 use Rattle.growth.specs.Plan.{
   upperUnder,
@@ -104,7 +105,7 @@ unfolding transcript readLog readFrom stepOf report
     tabulate blank partsAfter
     oneMore turn arrival sizeEntered heavyKept sizeLeft offeredTo sizeTurn sizeWalk lightOrLast siblingOrUp heavyLast placedRow started rowNumbered
     isOnPath upperOf sizeOf numberedDown numberedTo numberWalk entriesFrom aboveOf withEntries renumbered
-    isGood levelOf outgrownAt topFrom raisedAt raised isReadable entered leftRow checkTurn checkWalk firstOf firstAfter nextAfter parentAfter newLinks
+    isGood levelOf outgrownAt topFrom raisedAt raised isReadable entered leftRow checkTurn checkWalk areLinks copiesLinks firstOf firstAfter nextAfter parentAfter newLinks
     newValues linked attached upperUnder upperFor oldHead headOf isFirst isSeated isWhole plannedAt plannedRow leafWithin leafPlan rootOver rootWithin
     rootPlan loneFields loneNumbers loneEntries recorded storedBy served startedFields treeStarted grownBy addLeaf addRoot
     soughtIn isRow covers arrive climb atEntry pastEntry pastReach pastSpan sideFrom isOnRow forked meeting branchOf join between storedFrom

@@ -4,6 +4,9 @@ use crate::turn::Reading;
 use crate::turn::take_turn;
 use lines::end_line;
 use lines::header;
+use rows::layout::ENTRIES;
+use rows::layout::FIELDS;
+use rows::layout::NUMBERS;
 use set_up::Made;
 use set_up::set_up;
 ghost use mathlib.Core.Path.{_≡_};
@@ -15,6 +18,9 @@ ghost use Rattle.rows.specs.Row.{partsOf};
 ghost use Rattle.echo.specs.Bounds.{Opens, Sized};
 ghost use Rattle.echo.specs.Session.{sessionOf};
 ghost use Rattle.echo.specs.Transcript.{readLog, transcript};
+
+// The rows of the program's table.
+const ROWS: usize = 128;
 
 // Where the reading ended, and how many bytes of the buffer are filled.
 pub struct Page {
@@ -59,11 +65,11 @@ pub fn transcribe(log: &[u8], out: &mut [u8]) -> usize
     ensures text { λ r. ⌜ take r (now (out .exit)) ≡ transcript (now (log .entry)) ⌝ }
     ensures counts { λ r. ⌜ Counts r (now (out .exit)) ⌝ }
 {
-    let mut fields = [0u16; 1536];
-    let mut numbers = [0u64; 256];
-    let mut levels = [0i32; 128];
-    let mut ancestors = [0u16; 15616];
-    let scratch = [0u16; 128];
+    let mut fields = [0u16; ROWS * FIELDS];
+    let mut numbers = [0u64; ROWS * NUMBERS];
+    let mut levels = [0i32; ROWS];
+    let mut ancestors = [0u16; ROWS * ENTRIES];
+    let scratch = [0u16; ROWS];
     let Made::Empty(state) = set_up(&mut fields, &mut numbers, &mut levels, &mut ancestors) else {
         return 0;
     };
@@ -74,7 +80,7 @@ pub fn transcribe(log: &[u8], out: &mut [u8]) -> usize
         state: state,
         on: true,
     };
-    let filled = put_text(out, 0, header(128));
+    let filled = put_text(out, 0, header(ROWS as u32));
     let page = read_fields(
         log,
         out,

@@ -11,6 +11,6 @@ unfoldable pub areLinks : ℕ → List ℕ → Bool
 areLinks n [] = true
 areLinks n (e ∷ es) = isLink n e && areLinks n es
 
--- those that a row copies from its upper row u are
+-- every entry that a head copies from its upper row u is; all none where there is no such row
 unfoldable pub copiesLinks : List ℕ → ℕ → ℕ → Bool
 copiesLinks a n u = areLinks n (aboveOf a u)

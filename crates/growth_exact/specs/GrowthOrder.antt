@@ -11,7 +11,7 @@ use Rattle.growth_laws.specs.Growth.{Growth}
 use Rattle.growth_laws.specs.PathOrder.{Before}
 use Rattle.growth_laws.specs.PathOrderLaws.{before-starts, starts-before}
 use Rattle.growth_laws.specs.Renumbered.{Below}
-use Rattle.growth.specs.Growth.{Outcome}
+use Rattle.growth.specs.Growth.{Result}
 use Rattle.growth_exact.specs.GrowthExact.{tableGrown, GrownExactly}
 
 -- x starts before y exactly when it comes before y in 01's order
@@ -19,7 +19,7 @@ pub record InOrder (d : Table) (x y : ℕ) : Type 0 where
   pub starts : Before d x y → start d x < start d y
   pub before : start d x < start d y → Before d x y
 
-module _ {c : ℕ} {p : Parts} {s : State} {g : Growth} {o : Outcome} (k : GrownExactly c p s g o) where
+module _ {c : ℕ} {p : Parts} {s : State} {g : Growth} {o : Result} (k : GrownExactly c p s g o) where
   after : Numbered (tableGrown s o)
   after = numbered (k .rules) (k .fits .most)
 

@@ -34,6 +34,9 @@ enum-told c = search needs
 returns : tie.Need-returns
 returns c = absurd (set-up-not-refused (c .before .before .before .before .before .before .set-up .result) _ (c .before .before .before .before .before .before .set-up .ensures .0) (c .enum-told .given .1))
 
+cast-header : tie.Need-cast-header
+cast-header c = search needs
+
 header-requires : tie.Need-header-requires
 header-requires c κs = search needs
 
@@ -96,6 +99,7 @@ transcribe-spec =
     enum-known-state
     enum-told
     returns
+    cast-header
     header-requires
     put-text-requires
     slice-aggregate-read-fields
