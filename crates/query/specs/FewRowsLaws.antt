@@ -2,7 +2,7 @@
 use mathlib.Core.Path.{_≡_, refl, sym, ap, _∙_}
 use mathlib.Core.Bool.{Bool, true, false, _&&_}
 use mathlib.Core.List.{List, [], _∷_, _++_}
-use Prim.Native.Nat.{ℕ, suc, _+_, _-_, _*_, _≤_, _<_}
+use Prim.Native.Nat.{ℕ, suc, _+_, _-_, _≤_, _<_}
 use native.Mathlib.Decide.{decLt}
 use native.Mathlib.Omega.{arith}
 use lib.Dec.{eqb, leb}
@@ -17,8 +17,8 @@ use Rattle.span.specs.RankLaws.{rank-small}
 use Rattle.rows.specs.declared.capacity.Fit.{Fit}
 use Rattle.rows.specs.declared.refusal.Refusal.the-variants.{Corrupt}
 use Rattle.rows.specs.declared.state.State.{State}
-use Rattle.rows.specs.Layout.{entryStride, fieldStride, rootPlace}
-use Rattle.rows.specs.Row.{Parts, rowAt, levelAt, entryAt, fieldAt}
+use Rattle.rows.specs.Layout.{entryStride, fieldStride, numberStride, rootPlace}
+use Rattle.rows.specs.Row.{Parts, rowAt, levelAt, entryAt, fieldAt, numberAt}
 use Rattle.rows.specs.Capacity.{Fits}
 use Rattle.rows.specs.Tree.{treePlace}
 use Rattle.rows.specs.CapacityLaws.{fits-told}
@@ -293,7 +293,7 @@ row-past {c} {v} a f h = rw (
     field : (k : ℕ) → k < fieldStride → fieldAt (a .fields) v k ≡ 0
     field = field-past a f h
 
-    number : (k : ℕ) → k < 2 → getD (a .numbers) (v * 2 + k) 0 ≡ 0
+    number : (k : ℕ) → k < numberStride → numberAt (a .numbers) v k ≡ 0
     number k i = List·getD-eq-default (a .numbers) 0 (omega (arith, f .numbers))
 
 entry-past : {c v : ℕ} (a : Parts) → Fits c a → c ≤ v → (i : ℕ) → entryAt (a .ancestors) v i ≡ 0

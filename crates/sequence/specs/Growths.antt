@@ -31,7 +31,7 @@ use Rattle.plain_list.specs.PlainStep.{PlainOutcome, node, refused as plainRefu
 use Rattle.plain_list.specs.Proper.{Proper}
 use Rattle.plain_list.specs.Shows.{Shows}
 use Rattle.plain_list.specs.StoredList.{StoredList, storedUnder, storedBy, storedBelow}
-use Rattle.plain_list.specs.StoredListLaws.{Stores, stores-node, stores-below}
+use Rattle.plain_list.specs.Stores.{Stores, stores-node, stores-below}
 use Rattle.sequence.specs.Calls.{Call, refused, grown, told}
 use Rattle.sequence.specs.Run.{Fast, tableIn, Turn, replies, grownReply, stateAfter, afterGrowth, rowsIn}
 use Rattle.sequence.specs.Agrees.{Agrees, nodes}

@@ -18,7 +18,7 @@ use Rattle.plain_list.specs.PlainList.{PlainList, emptyList, countOf}
 use Rattle.plain_list.specs.Proper.{Proper, proper-empty}
 use Rattle.plain_list.specs.Shows.{Shows, shows-empty}
 use Rattle.plain_list.specs.StoredList.{StoredList}
-use Rattle.plain_list.specs.StoredListLaws.{Stores, stores-empty}
+use Rattle.plain_list.specs.Stores.{Stores, stores-empty}
 use Rattle.sequence.specs.Run.{Fast, tableIn, start}
 
 -- f, at capacity c, stands beside the plain list p and the stored list l after calls that renumbered so many rows in total, in so many joinings

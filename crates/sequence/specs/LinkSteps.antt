@@ -32,7 +32,7 @@ use Rattle.plain_list.specs.PlainStepLaws as plainly
 use Rattle.plain_list.specs.Proper.{root-own, proper-link}
 use Rattle.plain_list.specs.Shows.{shows-link}
 use Rattle.plain_list.specs.StoredList.{StoredList, relinked}
-use Rattle.plain_list.specs.StoredListLaws.{Stores, stores-link}
+use Rattle.plain_list.specs.Stores.{Stores, stores-link}
 use Rattle.sequence.specs.Calls.{link, refused}
 use Rattle.sequence.specs.Run.{Fast, tableIn, Turn, linkReply, afterLink, rowsIn, step}
 use Rattle.sequence.specs.Agrees.{links}

@@ -16,7 +16,7 @@ use Rattle.plain_list.specs.PlainList.{PlainList, emptyList, countOf}
 use Rattle.plain_list.specs.PlainStep.{plainOutcome, plainAfter, plainRun}
 use Rattle.plain_list.specs.Shows.{Shows}
 use Rattle.plain_list.specs.StoredList.{StoredList, storedAfter, storedRun}
-use Rattle.plain_list.specs.StoredListLaws.{Stores}
+use Rattle.plain_list.specs.Stores.{Stores}
 use Rattle.plain_list.specs.Joinings.{Unlinked, joinings-count}
 use Rattle.sequence.specs.Calls.{Call, first, leaf, root, rootOver, link, question, alike, inspection, told, toldAll}
 use Rattle.sequence.specs.Run.{Fast, tableIn, start, step, run, totalIn}

@@ -17,7 +17,7 @@ use Rattle.link_laws.specs.Link.{Linked}
 use Rattle.plain_list.specs.PlainList.{PlainList}
 use Rattle.plain_list.specs.PlainStep.{PlainCall, PlainReply, PlainOutcome, replies as plainReplies}
 use Rattle.plain_list.specs.StoredList.{StoredList, storedBelow, storedBy}
-use Rattle.plain_list.specs.StoredListLaws.{Stores}
+use Rattle.plain_list.specs.Stores.{Stores}
 use Rattle.sequence.specs.Calls.{Call, first, leaf, root, rootOver, link, question, Reply, refused, grown, linked, told}
 use Rattle.sequence.specs.Run.{Fast, tableIn, Turn, replies, rowsIn}
 use Rattle.sequence.specs.Agrees.{Agrees, refusals, nodes, links, answers, alikes, pass}

@@ -10,6 +10,9 @@ use crate::report::write_tree;
 use crate::shape::SHAPES;
 use crate::tally::Tally;
 use crate::tally::noted;
+use rows::layout::ENTRIES;
+use rows::layout::FIELDS;
+use rows::layout::NUMBERS;
 use rows::state::State;
 use set_up::Made;
 use set_up::set_up;
@@ -23,6 +26,9 @@ mod report;
 mod shape;
 mod tally;
 mod tree;
+
+// The rows of a table that is tried.
+const ROWS: usize = 128;
 
 // Both sides empty; a set-up that was refused is a difference.
 fn started(made: Made, seed: u64) -> Run {
@@ -91,11 +97,11 @@ fn asked(fields: &[u16], numbers: &[u64], levels: &[i32], ancestors: &[u16], run
 
 // A table grown in one shape to its last row, and all pairs asked.
 fn try_shape(shape: u16) -> Run {
-    let mut fields = [7u16; 1536];
-    let mut numbers = [7u64; 256];
-    let mut levels = [7i32; 128];
-    let mut ancestors = [7u16; 15616];
-    let mut scratch = [7u16; 128];
+    let mut fields = [7u16; ROWS * FIELDS];
+    let mut numbers = [7u64; ROWS * NUMBERS];
+    let mut levels = [7i32; ROWS];
+    let mut ancestors = [7u16; ROWS * ENTRIES];
+    let mut scratch = [7u16; ROWS];
     let made = set_up(&mut fields, &mut numbers, &mut levels, &mut ancestors);
     let run = grow_all(
         &mut fields,
