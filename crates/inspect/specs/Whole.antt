@@ -11,6 +11,7 @@ use Rattle.rows.specs.Table.{tableOf}
 use Rattle.rows.specs.State.{isStanding}
 use Rattle.rows.specs.StateLaws.{says-standing}
 use Rattle.rows.specs.Rules.{numbered}
+use Rattle.rows.specs.Capacity.{capacityLimit}
 use Rattle.numbering.specs.Bounds.{end-small}
 use Rattle.inspect_laws.specs.Recorded.{stateOf, areParents, areRoots, areLevels, areLinks, isRecorded}
 use Rattle.inspect_laws.specs.Compressed.{isCompressed}
@@ -38,7 +39,7 @@ and-right : (a b : Bool) → (a && b) ≡ true → b ≡ true
 and-right true b e = e
 and-right false b e = let z : _≡_ {A = ℕ} 0 1 = cc in absurd (omega arith)
 
-pub recorded-known : (f : List ℕ) (l : List ℤ) (n capacity : ℕ) → capacity ≤ 32768 → isRecorded capacity (levelTable f l n) ≡ true → Known f n capacity
+pub recorded-known : (f : List ℕ) (l : List ℤ) (n capacity : ℕ) → capacity ≤ capacityLimit → isRecorded capacity (levelTable f l n) ≡ true → Known f n capacity
 unfolding isRecorded
 recorded-known f l n capacity small e =
     let t = levelTable f l n in
@@ -61,7 +62,7 @@ small-known f m n s two e =
 -- the answer of the first rule that fails, or of the last
 module _ (f m : List ℕ) (l : List ℤ) (a : List ℕ) (n capacity : ℕ) where
   -- in a table that passes every span ends within the limit
-  pub stop-small : capacity ≤ 32768 → allTo (isSmall (spanTable f m 0)) n ≡ false → false ≡ inspects capacity (tableOf (partsOf f m l a) n)
+  pub stop-small : capacity ≤ capacityLimit → allTo (isSmall (spanTable f m 0)) n ≡ false → false ≡ inspects capacity (tableOf (partsOf f m l a) n)
   stop-small small e = sym (says-false
       (inspect-exact capacity (tableOf (partsOf f m l a) n) small)
       (λ r. says-not-get (says-small (spanTable f m 0) n) e (end-small (numbered r small))))

@@ -17,6 +17,7 @@ use Rattle.rows.specs.StoredTree.{OnLine}
 use Rattle.rows.specs.Rules.{Each}
 use Rattle.rows.specs.State.{isStanding}
 use Rattle.rows.specs.StateLaws.{says-standing}
+use Rattle.rows.specs.Capacity.{capacityLimit}
 use Rattle.inspect_laws.specs.All.{all-same}
 use Rattle.inspect_laws.specs.Recorded.{stateOf, areParents, areRoots, areLevels, areLinks, isRecorded, isLevelOn, isLabel, isOnLine}
 use Rattle.inspect_laws.specs.RecordedLaws.{stored-depths, RecordedRoot, says-roots, says-line}
@@ -93,7 +94,7 @@ module _ (f : List ℕ) (l : List ℤ) (n capacity : ℕ) where
   unfolding isRecorded
   stop-standing a = rw a
 
-  module _ (small : capacity ≤ 32768) (a : isStanding capacity (stateOf (levelTable f l n)) ≡ true) where
+  module _ (small : capacity ≤ capacityLimit) (a : isStanding capacity (stateOf (levelTable f l n)) ≡ true) where
     pub standing : n ≤ capacity
     standing = says-get (says-standing capacity (stateOf (levelTable f l n))) a
 

@@ -27,6 +27,7 @@ ghost use Rattle.tree_laws.specs.Ancestor.{none};
 ghost use Rattle.rows.specs.Layout.{lastPlace};
 ghost use Rattle.rows.specs.PlainTree.{first};
 ghost use Rattle.rows.specs.Row.{fieldAt};
+ghost use Rattle.rows.specs.Capacity.{capacityLimit};
 ghost use Rattle.inspect_tree.specs.Columns.{fieldTable, levelTable, parents, depths};
 ghost use Rattle.inspect_tree.specs.Line.{Marked, TreeMarked, LinesMarked, isPlaced};
 ghost use Rattle.inspect_tree.specs.Links.{Follows};
@@ -286,7 +287,7 @@ pub fn is_recorded(
     capacity: usize,
     state: State,
 ) -> bool
-    requires { ⌜ (capacity ≤ 32768) × (length (now s) ≡ capacity) ⌝ }
+    requires { ⌜ (capacity ≤ capacityLimit) × (length (now s) ≡ capacity) ⌝ }
     ensures { λ r. ⌜ r ≡ isRecorded capacity (levelTable (now (fields .entry)) (now (levels .entry)) (state .count)) ⌝ }
 {
     if !is_standing(capacity, state) {

@@ -5,9 +5,8 @@ use lib.Dec.{eqb}
 use lib.IntN.{ℤ}
 use Rattle.laws.specs.Test.{pick}
 use Rattle.tree_laws.specs.Ancestor.{none}
-use Rattle.rows.specs.Layout.{parentPlace, rootPlace}
+use Rattle.rows.specs.Layout.{parentPlace, rootPlace, treePlace}
 use Rattle.rows.specs.Row.{Parts, partsOf, fieldAt, entryAt}
-use Rattle.rows.specs.Tree.{treePlace}
 use Rattle.rows.specs.Write.{withField}
 use Rattle.renumber.specs.NumberWalk.{Written, written}
 use Rattle.growth.specs.Lone.{loneFields, loneNumbers, loneEntries}

@@ -5,9 +5,8 @@ use mathlib.Core.List.{List}
 use Prim.Native.Nat.{ℕ, suc}
 use borrow.Author.Tests.{eq-eqb, ne-eqb}
 use Rattle.tree_laws.specs.Ancestor.{none}
-use Rattle.rows.specs.Layout.{parentPlace, rootPlace}
+use Rattle.rows.specs.Layout.{parentPlace, rootPlace, treePlace}
 use Rattle.rows.specs.Row.{fieldAt, entryAt}
-use Rattle.rows.specs.Tree.{treePlace}
 use Rattle.rows.specs.Write.{withField}
 use Rattle.renumber.specs.NumberWalk.{Written, written}
 use Rattle.growth.specs.Lone.{loneFields, loneNumbers, loneEntries}

@@ -12,7 +12,7 @@ use Rattle.rows.specs.declared.capacity.Fit.the-variants.{Capacity, Misfit as N
 use Rattle.rows.specs.declared.refusal.Refusal.{Refusal}
 use Rattle.rows.specs.declared.refusal.Refusal.the-variants.{UnknownNode, Misfit, Corrupt, BadLabel}
 use Rattle.rows.specs.declared.state.State.{State}
-use Rattle.rows.specs.Capacity.{Fits, capacityOf}
+use Rattle.rows.specs.Capacity.{Fits, capacityOf, capacityLimit}
 use Rattle.rows.specs.CapacityLaws.{fits-capacity}
 use Rattle.rows.specs.Row.{Parts, partsOf, levelAt}
 use Rattle.rows.specs.State.{isStanding}
@@ -53,7 +53,7 @@ served-tests true true true true false k q = let z : _≡_ {A = ℕ} 0 1 = cc in
 -- the parts and the scratch fit a capacity, and hold all rows in use
 pub record Ready (p : Parts) (scratch n : ℕ) : Type 0 where
   pub held : Held n (p .fields) (p .numbers) (p .levels)
-  pub most : scratch ≤ 32768
+  pub most : scratch ≤ capacityLimit
 
 module _ (p : Parts) (scratch : ℕ) (s : State) (x v door : ℕ) where
   ready-within : {c tree : ℕ} → capacityOf p ≡ Capacity c → Serve tree ≡ linkWithin p c scratch s x v door → Ready p scratch (s .count)

@@ -11,6 +11,7 @@ ghost use mathlib.Core.Path.{_≡_};
 ghost use Prim.Native.Nat.{_≤_};
 ghost use lib.ListN.{length};
 ghost use Rattle.rows.specs.Row.{partsOf};
+ghost use Rattle.rows.specs.Capacity.{capacityLimit};
 ghost use Rattle.growth.specs.Good.{Held};
 ghost use Rattle.growth.specs.Store.{stored};
 ghost use Rattle.link.specs.Link.{joinedTree, LinkCall};
@@ -67,7 +68,7 @@ fn serve(
     door: u16,
 ) -> u32
     requires { ⌜ Held n (now fields) (now numbers) (now levels) ⌝ }
-    requires { ⌜ length (now scratch) ≤ 32768 ⌝ }
+    requires { ⌜ length (now scratch) ≤ capacityLimit ⌝ }
     ensures { λ r. ⌜ stored (partsOf (now (fields .exit)) (now (numbers .exit)) (now (levels .exit)) (now (ancestors .exit))) r ≡ joinedTree (partsOf (now (fields .entry)) (now (numbers .entry)) (now (levels .entry)) (now (ancestors .entry))) (length (now (scratch .entry))) n tree x v door ⌝ }
 {
     let cap = scratch.len();

@@ -16,10 +16,9 @@ use Rattle.tree_laws.specs.SizeDepth.{depth-below}
 use Rattle.span.specs.Constants.{ratioUp, ratioDown}
 use Rattle.span.specs.Numbers.{reachOf}
 use Rattle.tree_laws.specs.Top.{top-anc}
-use Rattle.rows.specs.Layout.{fieldStride, parentPlace, labelPlace, rootPlace}
+use Rattle.rows.specs.Layout.{fieldStride, parentPlace, labelPlace, rootPlace, treePlace}
 use Rattle.rows.specs.Row.{Parts, fieldAt, entryAt}
 use Rattle.rows.specs.Capacity.{Fits}
-use Rattle.rows.specs.Tree.{treePlace}
 use Rattle.rows.specs.Write.{withField}
 use Rattle.rows.specs.Table.{Table, tableOf, parent, depth}
 use Rattle.rows.specs.PlainTree.{first}

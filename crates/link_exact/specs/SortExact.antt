@@ -20,7 +20,7 @@ use Rattle.rows.specs.Row.{Parts, levelAt, entryAt}
 use Rattle.rows.specs.Rules.{Rules, Numbered, numbered}
 use Rattle.rows.specs.Sound.{isLevel, levelLimit}
 use Rattle.rows.specs.Table.{Table, tableOf, level}
-use Rattle.rows.specs.Tree.{treePlace}
+use Rattle.rows.specs.Layout.{treePlace}
 use Rattle.rows.specs.PlainTree.{first}
 use Rattle.numbering.specs.LevelLaws.{level-root}
 use Rattle.numbering.specs.Numbered.{shape, InTree}

@@ -6,7 +6,7 @@ use native.Mathlib.Omega.{arith}
 use lib.ListN.{length}
 use Rattle.laws.specs.Sum.{count-le}
 use Rattle.rows.specs.Row.{Parts}
-use Rattle.rows.specs.Capacity.{Fits}
+use Rattle.rows.specs.Capacity.{Fits, capacityLimit}
 use Rattle.rows.specs.Table.{Table, tableOf, level}
 use Rattle.rows.specs.PlainTree.{first}
 use Rattle.rows.specs.Rules.{Rules}
@@ -49,8 +49,8 @@ module _ {c : ℕ} {p : Parts} {n x v door : ℕ} (r : Rules c (tableOf p n)) (f
   -- at most 32,768 rows for each of at most 32,768 joins
   few : renumbered ≤ 4294967295
   few =
-      let a : treeRows t x ≤ 32768 = omega (arith, count-le (isOfTree t x) n, r .one .count, fit .most) in
-      let b : n ≤ 32768 = omega (arith, r .one .count, fit .most) in
+      let a : treeRows t x ≤ capacityLimit = omega (arith, count-le (isOfTree t x) n, r .one .count, fit .most) in
+      let b : n ≤ capacityLimit = omega (arith, r .one .count, fit .most) in
       omega (arith, link-rows r (fit .most) tree-linked, mul-le-mul a b)
 
   abbrev heads : ℕ → ℕ

@@ -6,10 +6,9 @@ use Prim.Native.Nat.{ℕ, _≤_, _<_}
 use lib.ListN.{length, getD}
 use Rattle.laws.specs.Test.{pick}
 use Rattle.rows.specs.declared.state.State.{State}
-use Rattle.rows.specs.Layout.{entryStride, rootPlace}
+use Rattle.rows.specs.Layout.{entryStride, rootPlace, treePlace}
 use Rattle.rows.specs.Row.{Parts, rowAt, entryAt, fieldAt}
 use Rattle.rows.specs.Capacity.{Fits}
-use Rattle.rows.specs.Tree.{treePlace}
 use Rattle.rows.specs.Table.{Table, parent, upper}
 use Rattle.rows.specs.Spans.{p}
 use Rattle.span.specs.Rank.{rankOf}

@@ -17,10 +17,9 @@ use Rattle.span.specs.RankLaws.{rank-small}
 use Rattle.rows.specs.declared.capacity.Fit.{Fit}
 use Rattle.rows.specs.declared.refusal.Refusal.the-variants.{Corrupt}
 use Rattle.rows.specs.declared.state.State.{State}
-use Rattle.rows.specs.Layout.{entryStride, fieldStride, numberStride, rootPlace}
+use Rattle.rows.specs.Layout.{entryStride, fieldStride, numberStride, rootPlace, treePlace}
 use Rattle.rows.specs.Row.{Parts, rowAt, levelAt, entryAt, fieldAt, numberAt}
 use Rattle.rows.specs.Capacity.{Fits}
-use Rattle.rows.specs.Tree.{treePlace}
 use Rattle.rows.specs.CapacityLaws.{fits-told}
 use Rattle.rows.specs.Table.{Table, tableOf}
 use Rattle.rows.specs.Spans.{p}

@@ -8,9 +8,9 @@ use lib.Dec.{eqb, ltb}
 use borrow.Author.Tests.{eq-eqb, ne-eqb}
 use Rattle.laws.specs.Test.{pick}
 use Rattle.tree_laws.specs.Ancestor.{none}
-use Rattle.rows.specs.Layout.{rootPlace}
+use Rattle.rows.specs.Layout.{rootPlace, treePlace}
 use Rattle.rows.specs.Row.{entryAt, fieldAt}
-use Rattle.rows.specs.Tree.{treePlace, treeAt, rootOf}
+use Rattle.rows.specs.Tree.{treeAt, rootOf}
 use Rattle.query.specs.declared.tree.Sought.{Sought}
 use Rattle.query.specs.declared.tree.Sought.the-variants.{Root, Other, Lost}
 use Rattle.query.specs.Sought.{foundRoot, soughtIn}

@@ -1,5 +1,6 @@
 -- The places of a row's numbers in the lent parts: one number to each name, and no other file writes them.
-use Prim.Native.Nat.{ℕ}
+use Prim.Native.Nat.{ℕ, _-_}
+use Rattle.span.specs.Constants.{entries}
 
 -- 16-bit fields of a row in `fields`, by their place in the row; the first eight are those that the row check reads
 abbrev pub parentPlace : ℕ
@@ -52,4 +53,8 @@ numberStride = 2
 
 -- ancestor entries of a row in `ancestors`
 abbrev pub entryStride : ℕ
-entryStride = 122
+entryStride = entries
+
+-- the last of them, which is the first row of the row's tree
+abbrev pub treePlace : ℕ
+treePlace = entryStride - 1

@@ -4,12 +4,8 @@ use Prim.Native.Nat.{ℕ}
 use lib.Dec.{ltb, eqb}
 use Rattle.laws.specs.Test.{pick}
 use Rattle.tree_laws.specs.Ancestor.{none}
-use Rattle.rows.specs.Layout.{rootPlace}
+use Rattle.rows.specs.Layout.{rootPlace, treePlace}
 use Rattle.rows.specs.Row.{entryAt, fieldAt}
-
--- the last ancestor entry, which is the first row of the tree
-abbrev pub treePlace : ℕ
-treePlace = 121
 
 -- y where it is a row in use, else none
 abbrev pub inUse : ℕ → ℕ → ℕ

@@ -48,4 +48,4 @@ pub const NUMBERS: usize = 2;
 pub const ENTRIES: usize = 122;
 
 // The last of them, which is the first row of the row's tree.
-pub const TREE: u16 = 121;
+pub const TREE: u16 = (ENTRIES - 1) as u16;

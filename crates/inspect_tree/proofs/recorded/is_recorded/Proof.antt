@@ -3,6 +3,7 @@ use mathlib.Core.Path.{_≡_, sym, _∙_}
 use mathlib.Core.Bool.{true}
 use Prim.Native.Nat.{_≤_}
 use borrow.Author.Tests.{not-false}
+use Rattle.rows.specs.Capacity.{capacityLimit}
 use Rattle.rows.specs.State.{isStanding}
 use Rattle.inspect_laws.specs.All.{answer-no, answer-yes}
 use Rattle.inspect_laws.specs.Recorded.{stateOf, areParents, areRoots, areLevels}
@@ -34,7 +35,7 @@ returns-2 c =
     let l = args .levels .now in
     let n = args .state .count in
     let cap = args .capacity in
-    let small : cap ≤ 32768 = c .before .before .before .before .before .before .pre .0 in
+    let small : cap ≤ capacityLimit = c .before .before .before .before .before .before .pre .0 in
     let a : isStanding cap (stateOf (levelTable f l n)) ≡ true = answer-yes (c .before .before .before .is-standing .ensures) (c .before .before .if1 .left) in
     stop-parents f l n cap small a (answer-no (c .before .are-parents .ensures) (c .if2 .taken))
 
@@ -51,7 +52,7 @@ returns-3 c =
     let l = args .levels .now in
     let n = args .state .count in
     let cap = args .capacity in
-    let small : cap ≤ 32768 = c .before .before .before .before .before .before .before .before .before .before .before .pre .0 in
+    let small : cap ≤ capacityLimit = c .before .before .before .before .before .before .before .before .before .before .before .pre .0 in
     let a : isStanding cap (stateOf (levelTable f l n)) ≡ true = answer-yes (c .before .before .before .before .before .before .before .before .is-standing .ensures) (c .before .before .before .before .before .before .before .if1 .left) in
     let b : areParents (fieldTable f n) ≡ true = answer-yes (c .before .before .before .before .before .before .are-parents .ensures) (c .before .before .before .before .before .if2 .left) in
     stop-roots f l n cap small a b (answer-no (c .before .before .before .mark-lines .ensures .answer) (c .if3 .taken))
@@ -69,7 +70,7 @@ returns-4 c =
     let l = args .levels .now in
     let n = args .state .count in
     let cap = args .capacity in
-    let small : cap ≤ 32768 = c .before .before .before .before .before .before .before .before .before .before .before .before .before .before .pre .0 in
+    let small : cap ≤ capacityLimit = c .before .before .before .before .before .before .before .before .before .before .before .before .before .before .pre .0 in
     let a : isStanding cap (stateOf (levelTable f l n)) ≡ true = answer-yes (c .before .before .before .before .before .before .before .before .before .before .before .is-standing .ensures) (c .before .before .before .before .before .before .before .before .before .before .if1 .left) in
     let b : areParents (fieldTable f n) ≡ true = answer-yes (c .before .before .before .before .before .before .before .before .before .are-parents .ensures) (c .before .before .before .before .before .before .before .before .if2 .left) in
     let lines = c .before .before .before .before .before .before .mark-lines .ensures in
@@ -90,7 +91,7 @@ returns-5 c =
     let l = args .levels .now in
     let n = args .state .count in
     let cap = args .capacity in
-    let small : cap ≤ 32768 = c .before .before .before .before .before .before .before .before .before .before .before .before .before .before .before .pre .0 in
+    let small : cap ≤ capacityLimit = c .before .before .before .before .before .before .before .before .before .before .before .before .before .before .before .pre .0 in
     let a : isStanding cap (stateOf (levelTable f l n)) ≡ true = answer-yes (c .before .before .before .before .before .before .before .before .before .before .before .before .is-standing .ensures) (c .before .before .before .before .before .before .before .before .before .before .before .if1 .left) in
     let b : areParents (fieldTable f n) ≡ true = answer-yes (c .before .before .before .before .before .before .before .before .before .before .are-parents .ensures) (c .before .before .before .before .before .before .before .before .before .if2 .left) in
     let lines = c .before .before .before .before .before .before .before .mark-lines .ensures in
