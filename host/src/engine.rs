@@ -33,7 +33,7 @@ pub const TREE: usize = 121;
 pub const BLANK: [u16; FIELDS] = [NONE, NONE, NONE, NONE, NONE, NONE, 0, 0, 0, 0, NONE, 0];
 
 mod raw {
-    #[link(name = "desk", kind = "static")]
+    #[link(name = "vundreli", kind = "static")]
     extern "C" {
         pub fn nca_table_set_up(
             fields: *mut u16,

@@ -1,9 +1,12 @@
 -- What a call gives a C host: 0 or 01's refusal number, and the out slice afterwards. A refusal leaves the out slice as it was.
 use mathlib.Core.List.{List, [], _∷_}
 use Prim.Native.Nat.{ℕ}
+use lib.Dec.{eqb}
 use lib.IntN.{ℤ, pos}
-use Rattle.laws.specs.Test.{bit}
+use lib.ListN.{length}
+use Rattle.laws.specs.Test.{bit, pick}
 use Rattle.rows.specs.declared.refusal.Refusal.the-variants.{Misfit}
+use Rattle.rows.specs.declared.state.State.{State}
 use Rattle.rows.specs.Refusal.{numberOf}
 use Rattle.set_up.specs.Outcome.{Outcome as SetUpOutcome, refusal as notMade, empty}
 use Rattle.growth.specs.Outcome.{Outcome as GrowthOutcome, refusal as notGrown, node}
@@ -11,6 +14,10 @@ use Rattle.link.specs.Outcome.{Outcome as LinkOutcome, refusal as notLinked, un
 use Rattle.query.specs.Outcome.{Outcome as QuestionOutcome, refusal as noAnswer, answer}
 use Rattle.alike.specs.Outcome.{Outcome as AlikeOutcome, refusal as noValue, value}
 use Rattle.inspect.specs.Outcome.{Outcome as InspectionOutcome, refusal as notInspected, passes}
+
+-- the count, as it goes in
+abbrev pub stateOf : ℕ → State
+stateOf count = record { count = count }
 
 pub record Reply (A : Type 0) : Type 0 where
   pub number : ℕ
@@ -22,6 +29,10 @@ reply n l = record { number = n; out = l }
 -- an out slice of another length is a misfit
 abbrev pub misfit : {A : Type 0} → List A → Reply A
 misfit out = reply (numberOf Misfit) out
+
+-- by whether the out slice has room for n values and no more
+abbrev pub onLength : {A B : Type 0} → ℕ → List A → B → B → B
+onLength n out served other = pick (eqb (length out) n) served other
 
 -- the count
 abbrev pub madeReply : List ℕ → SetUpOutcome → Reply ℕ

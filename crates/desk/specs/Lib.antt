@@ -1,4 +1,0 @@
-pub mod TableCalls
-pub mod TableCallsLaws
-pub mod TreeCalls
-pub mod TreeCallsLaws

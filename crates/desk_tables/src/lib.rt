@@ -1,0 +1,221 @@
+// The table form for a C host, as include/vundreli.h declares it: the lent parts of a table as they are, the count by value. A slice is a pointer and a
+// count.
+use replies::reply_answered;
+use replies::reply_compared;
+use replies::reply_grown;
+use replies::reply_inspected;
+use replies::reply_linked;
+use replies::reply_made;
+use rows::refusal::Refusal;
+use rows::refusal::number_of;
+use rows::state::State;
+ghost use mathlib.Core.Path.{_≡_};
+ghost use lib.ListN.{length};
+ghost use Rattle.rows.specs.Row.{partsOf};
+ghost use Rattle.replies.specs.Reply.{stateOf, reply};
+ghost use Rattle.desk_tables.specs.TableCalls.{outcome, setUpCall, firstCall, leafCall, rootCall, LinkCall, questionCall, alikeCall, InspectionCall};
+
+// How many values each call has for its out slice.
+const MADE_OUT: usize = 1;
+
+const GROWN_OUT: usize = 3;
+
+const LINKED_OUT: usize = 1;
+
+const ANSWERED_OUT: usize = 6;
+
+const COMPARED_OUT: usize = 1;
+
+const INSPECTED_OUT: usize = 1;
+
+// An empty table. Out: count.
+#[no_mangle]
+pub extern "C" fn nca_table_set_up(
+    fields: &mut [u16],
+    numbers: &mut [u64],
+    levels: &mut [i32],
+    ancestors: &mut [u16],
+    out: &mut [u16],
+) -> u16
+    ensures { λ r. ⌜ outcome (partsOf (now (fields .exit)) (now (numbers .exit)) (now (levels .exit)) (now (ancestors .exit))) (reply r (now (out .exit))) ≡ setUpCall (partsOf (now (fields .entry)) (now (numbers .entry)) (now (levels .entry)) (now (ancestors .entry))) (now (out .entry)) ⌝ }
+{
+    if out.len() != MADE_OUT {
+        return number_of(Refusal::Misfit);
+    }
+    let made = set_up::set_up(fields, numbers, levels, ancestors);
+    reply_made(made, out)
+}
+
+// A first node, which begins a tree. Out: count, node, rows renumbered.
+#[no_mangle]
+pub extern "C" fn nca_table_add_first(
+    fields: &mut [u16],
+    numbers: &mut [u64],
+    levels: &mut [i32],
+    ancestors: &mut [u16],
+    scratch: &[u16],
+    count: u16,
+    out: &mut [u16],
+) -> u16
+    ensures { λ r. ⌜ outcome (partsOf (now (fields .exit)) (now (numbers .exit)) (now (levels .exit)) (now (ancestors .exit))) (reply r (now (out .exit))) ≡ firstCall (partsOf (now (fields .entry)) (now (numbers .entry)) (now (levels .entry)) (now (ancestors .entry))) (now (out .entry)) (length (now (scratch .entry))) (stateOf count) ⌝ }
+{
+    if out.len() != GROWN_OUT {
+        return number_of(Refusal::Misfit);
+    }
+    let state = State { count: count };
+    let grown = growth::add_first(fields, numbers, levels, ancestors, scratch, state);
+    reply_grown(grown, out)
+}
+
+// A new leaf. Out: count, node, rows renumbered.
+#[no_mangle]
+pub extern "C" fn nca_table_add_leaf(
+    fields: &mut [u16],
+    numbers: &mut [u64],
+    levels: &mut [i32],
+    ancestors: &mut [u16],
+    scratch: &[u16],
+    count: u16,
+    parent: u16,
+    label: u16,
+    out: &mut [u16],
+) -> u16
+    ensures { λ r. ⌜ outcome (partsOf (now (fields .exit)) (now (numbers .exit)) (now (levels .exit)) (now (ancestors .exit))) (reply r (now (out .exit))) ≡ leafCall (partsOf (now (fields .entry)) (now (numbers .entry)) (now (levels .entry)) (now (ancestors .entry))) (now (out .entry)) (length (now (scratch .entry))) (stateOf count) parent label ⌝ }
+{
+    if out.len() != GROWN_OUT {
+        return number_of(Refusal::Misfit);
+    }
+    let state = State { count: count };
+    let grown = growth::add_leaf(
+        fields,
+        numbers,
+        levels,
+        ancestors,
+        scratch,
+        state,
+        parent,
+        label,
+    );
+    reply_grown(grown, out)
+}
+
+// A new root over x, the root of a tree. Out: count, node, rows renumbered.
+#[no_mangle]
+pub extern "C" fn nca_table_add_root(
+    fields: &mut [u16],
+    numbers: &mut [u64],
+    levels: &mut [i32],
+    ancestors: &mut [u16],
+    scratch: &[u16],
+    count: u16,
+    x: u16,
+    out: &mut [u16],
+) -> u16
+    ensures { λ r. ⌜ outcome (partsOf (now (fields .exit)) (now (numbers .exit)) (now (levels .exit)) (now (ancestors .exit))) (reply r (now (out .exit))) ≡ rootCall (partsOf (now (fields .entry)) (now (numbers .entry)) (now (levels .entry)) (now (ancestors .entry))) (now (out .entry)) (length (now (scratch .entry))) (stateOf count) x ⌝ }
+{
+    if out.len() != GROWN_OUT {
+        return number_of(Refusal::Misfit);
+    }
+    let state = State { count: count };
+    let grown = growth::add_root_over(fields, numbers, levels, ancestors, scratch, state, x);
+    reply_grown(grown, out)
+}
+
+// The tree of root x under v, a node of another tree; x takes the label. Out: rows renumbered.
+#[no_mangle]
+pub extern "C" fn nca_table_link(
+    fields: &mut [u16],
+    numbers: &mut [u64],
+    levels: &mut [i32],
+    ancestors: &mut [u16],
+    scratch: &mut [u16],
+    count: u16,
+    x: u16,
+    v: u16,
+    label: u16,
+    out: &mut [u32],
+) -> u16
+    ensures { λ r. ⌜ LinkCall (partsOf (now (fields .entry)) (now (numbers .entry)) (now (levels .entry)) (now (ancestors .entry))) (now (out .entry)) (now (scratch .entry)) (stateOf count) x v label (now (scratch .exit)) (outcome (partsOf (now (fields .exit)) (now (numbers .exit)) (now (levels .exit)) (now (ancestors .exit))) (reply r (now (out .exit)))) ⌝ }
+{
+    if out.len() != LINKED_OUT {
+        return number_of(Refusal::Misfit);
+    }
+    let state = State { count: count };
+    let linked = link::link(
+        fields,
+        numbers,
+        levels,
+        ancestors,
+        scratch,
+        state,
+        x,
+        v,
+        label,
+    );
+    reply_linked(linked, out)
+}
+
+// The characteristic ancestors of x and y. Out: nearest common ancestor, branches towards x and y, distances of x and y, label.
+#[no_mangle]
+pub extern "C" fn nca_table_query(
+    fields: &[u16],
+    numbers: &[u64],
+    levels: &[i32],
+    ancestors: &[u16],
+    count: u16,
+    x: u16,
+    y: u16,
+    out: &mut [i32],
+) -> u16
+    ensures { λ r. ⌜ reply r (now (out .exit)) ≡ questionCall (partsOf (now (fields .entry)) (now (numbers .entry)) (now (levels .entry)) (now (ancestors .entry))) (now (out .entry)) (stateOf count) x y ⌝ }
+{
+    if out.len() != ANSWERED_OUT {
+        return number_of(Refusal::Misfit);
+    }
+    let state = State { count: count };
+    let answered = query::characteristic_ancestors(fields, numbers, levels, ancestors, state, x, y);
+    reply_answered(answered, out)
+}
+
+// Whether x and y have equal lists of labels. Out: 1 or 0.
+#[no_mangle]
+pub extern "C" fn nca_table_alike(
+    fields: &[u16],
+    numbers: &[u64],
+    levels: &[i32],
+    ancestors: &[u16],
+    count: u16,
+    x: u16,
+    y: u16,
+    out: &mut [u16],
+) -> u16
+    ensures { λ r. ⌜ reply r (now (out .exit)) ≡ alikeCall (partsOf (now (fields .entry)) (now (numbers .entry)) (now (levels .entry)) (now (ancestors .entry))) (now (out .entry)) (stateOf count) x y ⌝ }
+{
+    if out.len() != COMPARED_OUT {
+        return number_of(Refusal::Misfit);
+    }
+    let state = State { count: count };
+    let compared = alike::same_labels(fields, numbers, levels, ancestors, state, x, y);
+    reply_compared(compared, out)
+}
+
+// Whether the table passes inspection. Out: 1 or 0.
+#[no_mangle]
+pub extern "C" fn nca_table_inspect(
+    fields: &[u16],
+    numbers: &[u64],
+    levels: &[i32],
+    ancestors: &[u16],
+    scratch: &mut [u16],
+    count: u16,
+    out: &mut [u16],
+) -> u16
+    ensures { λ r. ⌜ InspectionCall (partsOf (now (fields .entry)) (now (numbers .entry)) (now (levels .entry)) (now (ancestors .entry))) (now (out .entry)) (now (scratch .entry)) (stateOf count) (now (scratch .exit)) (reply r (now (out .exit))) ⌝ }
+{
+    if out.len() != INSPECTED_OUT {
+        return number_of(Refusal::Misfit);
+    }
+    let state = State { count: count };
+    let inspected = inspect::inspect(fields, numbers, levels, ancestors, scratch, state);
+    reply_inspected(inspected, out)
+}

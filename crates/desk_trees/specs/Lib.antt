@@ -1,0 +1,2 @@
+pub mod TreeCalls
+pub mod TreeCallsLaws
