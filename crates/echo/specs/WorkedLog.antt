@@ -32,30 +32,16 @@ use Rattle.renumber.specs.NumberWalk.{
 }
 use Rattle.renumber.specs.Entries.{entriesFrom, aboveOf, withEntries}
 use Rattle.renumber.specs.Renumber.{renumbered}
-use Rattle.growth.specs.Good.{isGood}
+use Rattle.join.specs.Good.{isGood}
+use Rattle.join.specs.Chain.{outgrownAt, topFrom, raisedAt, raised}
+use Rattle.join.specs.CheckWalk.{isReadable, entered, leftRow, checkTurn, checkWalk}
+use Rattle.join.specs.Copied.{areLinks, copiesLinks}
+use Rattle.join.specs.Attach.{firstOf, firstAfter, nextAfter, parentAfter, newLinks, newValues, linked, attached}
+use Rattle.join.specs.Plan.{upperUnder, upperFor, oldHead, headOf, isFirst, isSeated, isWhole, plannedAt, plannedRow}
+use Rattle.join.specs.Lone.{loneFields, loneNumbers, loneEntries}
+use Rattle.join.specs.Store.{recorded, storedBy}
 use Rattle.growth.specs.Level.{levelOf}
-use Rattle.growth.specs.Chain.{outgrownAt, topFrom, raisedAt, raised}
-use Rattle.growth.specs.CheckWalk.{isReadable, entered, leftRow, checkTurn, checkWalk}
-use Rattle.growth.specs.Copied.{areLinks, copiesLinks}
-use Rattle.growth.specs.Attach.{firstOf, firstAfter, nextAfter, parentAfter, newLinks, newValues, linked, attached}
-use Rattle.growth.specs.Plan.{
-  upperUnder,
-  upperFor,
-  oldHead,
-  headOf,
-  isFirst,
-  isSeated,
-  isWhole,
-  plannedAt,
-  plannedRow,
-  leafWithin,
-  leafPlan,
-  rootOver,
-  rootWithin,
-  rootPlan,
-}
-use Rattle.growth.specs.Lone.{loneFields, loneNumbers, loneEntries}
-use Rattle.growth.specs.Store.{recorded, storedBy}
+use Rattle.growth.specs.Plan.{leafWithin, leafPlan, rootOver, rootWithin, rootPlan}
 use Rattle.growth.specs.Growth.{served, startedFields, started as treeStarted, grownBy, addLeaf, addRoot}
 use Rattle.query.specs.Sought.{soughtIn}
 use Rattle.query.specs.Reading.{isRow, covers}

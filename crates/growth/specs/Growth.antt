@@ -6,13 +6,13 @@ use Rattle.rows.specs.declared.state.State.{State}
 use Rattle.rows.specs.Row.{Parts, partsOf}
 use Rattle.rows.specs.Layout.{labelPlace, rootPlace}
 use Rattle.rows.specs.Write.{withField, withLevel}
-use Rattle.growth.specs.declared.plan.Plan.{Plan}
-use Rattle.growth.specs.declared.plan.Planned.{Planned}
-use Rattle.growth.specs.declared.plan.Planned.the-variants.{Grow, Start, Refuse}
+use Rattle.join.specs.declared.plan.Plan.{Plan}
+use Rattle.join.specs.declared.plan.Planned.{Planned}
+use Rattle.join.specs.declared.plan.Planned.the-variants.{Grow, Start, Refuse}
 use Rattle.renumber.specs.Count.{oneMore}
-use Rattle.growth.specs.Lone.{loneFields, loneNumbers, loneEntries}
+use Rattle.join.specs.Lone.{loneFields, loneNumbers, loneEntries}
+use Rattle.join.specs.Store.{Stored, storedBy}
 use Rattle.growth.specs.Plan.{firstPlan, leafPlan, overPlan, rootPlan}
-use Rattle.growth.specs.Store.{Stored, storedBy}
 use Rattle.growth.specs.Outcome.{Outcome, refused, node}
 
 -- the outcome, and the parts afterwards

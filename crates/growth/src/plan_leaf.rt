@@ -1,8 +1,8 @@
 // A new leaf before the first store: its refusals in their order, and its plan.
 use crate::level::Level;
 use crate::level::leaf_level;
-use crate::plan::Planned;
-use crate::plan::plan_row;
+use join::plan::Planned;
+use join::plan::plan_row;
 use rows::capacity::Fit;
 use rows::capacity::capacity;
 use rows::layout::LARGEST_LABEL;

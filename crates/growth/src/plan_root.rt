@@ -1,8 +1,8 @@
 // A new root before the first store: its refusals in their order, and its plan.
 use crate::level::Level;
 use crate::level::root_level;
-use crate::plan::Planned;
-use crate::plan::plan_row;
+use join::plan::Planned;
+use join::plan::plan_row;
 use rows::capacity::Fit;
 use rows::capacity::capacity;
 use rows::layout::NONE;
@@ -15,7 +15,7 @@ use rows::tree::tree_of;
 ghost use mathlib.Core.Path.{_≡_};
 ghost use lib.ListN.{length};
 ghost use Rattle.rows.specs.Row.{partsOf};
-ghost use Rattle.growth.specs.Good.{Held};
+ghost use Rattle.join.specs.Good.{Held};
 ghost use Rattle.growth.specs.Plan.{firstPlan, overPlan, rootOver, rootPlan};
 
 // The plan of a new root over r, the root of the tree whose first row is `tree`.

@@ -1,5 +1,5 @@
 // The stores of a first node.
-use crate::lone::stand_alone;
+use join::lone::stand_alone;
 use rows::layout::LABEL;
 use rows::layout::ROOT;
 use rows::write::put_field;
@@ -7,7 +7,7 @@ use rows::write::put_level;
 ghost use mathlib.Core.Path.{_≡_};
 ghost use lib.IntN.{pos};
 ghost use Rattle.rows.specs.Write.{withLevel};
-ghost use Rattle.growth.specs.Lone.{loneNumbers, loneEntries};
+ghost use Rattle.join.specs.Lone.{loneNumbers, loneEntries};
 ghost use Rattle.growth.specs.Growth.{startedFields};
 
 // Row n stands alone, of label 0 and level 0, its own root.

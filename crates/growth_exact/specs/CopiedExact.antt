@@ -22,9 +22,9 @@ use Rattle.growth_laws.specs.JoinedLaws.{upper-alone}
 use Rattle.growth_laws.specs.Trees.{own-trees, uppers}
 use Rattle.renumber.specs.Entries.{aboveOf}
 use Rattle.renumber.specs.EntriesLaws.{length-above}
-use Rattle.growth.specs.Copied.{copiesLinks}
-use Rattle.growth.specs.CopiedLaws.{are-links}
-use Rattle.growth.specs.Good.{isGood}
+use Rattle.join.specs.Copied.{copiesLinks}
+use Rattle.join.specs.CopiedLaws.{are-links}
+use Rattle.join.specs.Good.{isGood}
 use Rattle.growth_exact.specs.Columns.{Holds}
 use Rattle.growth_exact.specs.EntryColumns.{above-entry}
 use Rattle.growth_exact.specs.Site.{Site, LeafOf}

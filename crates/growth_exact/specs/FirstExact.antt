@@ -20,10 +20,10 @@ use Rattle.growth_laws.specs.GrowthKeepsRules.{start-keeps-rules, start-plain}
 use Rattle.growth_laws.specs.Lag.{lag, worth, perJoin}
 use Rattle.growth_laws.specs.LoneLaws.{parted-lag}
 use Rattle.growth_laws.specs.PlainStep.{PlainStart}
-use Rattle.growth.specs.declared.plan.Planned.the-variants.{Start}
+use Rattle.join.specs.declared.plan.Planned.the-variants.{Start}
+use Rattle.join.specs.Lone.{loneNumbers, loneEntries}
 use Rattle.growth.specs.Plan.{rootPlan}
 use Rattle.growth.specs.PlanLaws.{first-row, root-first}
-use Rattle.growth.specs.Lone.{loneNumbers, loneEntries}
 use Rattle.growth.specs.Outcome.{node}
 use Rattle.growth.specs.Growth.{Result, startedFields, started, grownBy, addFirst, addRoot}
 use Rattle.renumbering.specs.Column.{put, put-other}

@@ -26,9 +26,9 @@ use Rattle.growth_laws.specs.Grown.{Grown}
 use Rattle.growth_laws.specs.GrowthKeepsRules.{growth-keeps-rules}
 use Rattle.growth_laws.specs.LoneLaws.{parted-numbered}
 use Rattle.growth_laws.specs.Renumbered.{rows}
-use Rattle.growth.specs.declared.plan.Planned.the-variants.{Grow}
-use Rattle.growth.specs.Good.{isGood}
-use Rattle.growth.specs.Plan.{plannedRow}
+use Rattle.join.specs.declared.plan.Planned.the-variants.{Grow}
+use Rattle.join.specs.Good.{isGood}
+use Rattle.join.specs.Plan.{plannedRow}
 use Rattle.renumbering.specs.Column.{put}
 use Rattle.growth_exact.specs.Site.{Site}
 use Rattle.growth_exact.specs.PlanExact.{h, plan, row-planned, joinedTable, site-step, site-roots}

@@ -44,9 +44,9 @@ use Rattle.growth_laws.specs.Chains.{size-most}
 use Rattle.growth_laws.specs.Trees.{OwnTrees, own-trees, stored, uppers, parent-upper}
 use Rattle.growth_laws.specs.StepLaws.{apex-back, path-child-back}
 use Rattle.renumbering.specs.Column.{put, put-other}
-use Rattle.growth.specs.declared.attach.Leaf.{Leaf}
-use Rattle.growth.specs.Attach.{attached}
-use Rattle.growth.specs.Store.{recorded}
+use Rattle.join.specs.declared.attach.Leaf.{Leaf}
+use Rattle.join.specs.Attach.{attached}
+use Rattle.join.specs.Store.{recorded}
 use Rattle.growth_exact.specs.Columns.{Holds, holds-set, set-other, put-given}
 use Rattle.growth_exact.specs.AttachExact.{Quiet, Attached, attach}
 use Rattle.growth_exact.specs.Site.{Site, LeafOf}

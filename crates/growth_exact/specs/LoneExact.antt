@@ -37,8 +37,8 @@ use Rattle.rows.specs.Table.{tableOf, setSize}
 use Rattle.growth_laws.specs.Lone.{Lone, Kept}
 use Rattle.renumber.specs.Entries.{entryFrom}
 use Rattle.renumbering.specs.Column.{put}
-use Rattle.growth.specs.Attach.{newLinks}
-use Rattle.growth.specs.Lone.{loneFields, loneNumbers, loneEntries}
+use Rattle.join.specs.Attach.{newLinks}
+use Rattle.join.specs.Lone.{loneFields, loneNumbers, loneEntries}
 use Rattle.growth_exact.specs.Columns.{Holds, RowView, row-same, row-set}
 use Rattle.growth_exact.specs.EntryColumns.{above-entry, entries-hold, entries-own, entries-other}
 use Rattle.growth_exact.specs.NumberColumns.{reach-same}

@@ -27,19 +27,19 @@ use Rattle.growth_laws.specs.JoinStep.{JoinStep}
 use Rattle.growth_laws.specs.Head.{Head}
 use Rattle.growth_laws.specs.Renumbered.{rows}
 use Rattle.growth_laws.specs.Trees.{OwnTrees, own-trees, stored, shape-of}
-use Rattle.growth.specs.declared.attach.Leaf.{Leaf}
+use Rattle.join.specs.declared.attach.Leaf.{Leaf}
+use Rattle.join.specs.declared.plan.Plan.{Plan}
+use Rattle.join.specs.declared.plan.Planned.the-variants.{Grow}
+use Rattle.join.specs.Attach.{firstOf, firstAfter, nextAfter, parentAfter}
+use Rattle.join.specs.CheckWalk.{isReadable}
+use Rattle.join.specs.Copied.{copiesLinks}
+use Rattle.join.specs.Good.{isGood}
+use Rattle.join.specs.Plan.{upperUnder, upperFor, leafUnder, headOf, isFirst, isSeated, isWhole, plannedRow}
+use Rattle.join.specs.PlanLaws.{planned, on-top}
+use Rattle.join.specs.Store.{stored as storedAs, storedBy}
 use Rattle.growth.specs.declared.level.Level.the-variants.{At}
-use Rattle.growth.specs.declared.plan.Plan.{Plan}
-use Rattle.growth.specs.declared.plan.Planned.the-variants.{Grow}
-use Rattle.growth.specs.Attach.{firstOf, firstAfter, nextAfter, parentAfter}
-use Rattle.growth.specs.CheckWalk.{isReadable}
 use Rattle.renumber.specs.Count.{oneMore}
-use Rattle.growth.specs.Copied.{copiesLinks}
-use Rattle.growth.specs.Good.{isGood}
 use Rattle.growth.specs.Level.{levelOf as levelWithin}
-use Rattle.growth.specs.Plan.{upperUnder, upperFor, leafUnder, headOf, isFirst, isSeated, isWhole, plannedRow}
-use Rattle.growth.specs.PlanLaws.{planned, on-top}
-use Rattle.growth.specs.Store.{stored as storedAs, storedBy}
 use Rattle.growth_exact.specs.SizeWalkExact.{more-one}
 use Rattle.renumbering.specs.Column.{put}
 use Rattle.growth_exact.specs.RenumberExact.{headAt}

@@ -12,7 +12,7 @@ use Rattle.rows.specs.Capacity.{Fits}
 use Rattle.rows.specs.Sound.{levelLimit}
 use Rattle.rows.specs.Table.{Table, parent, depth, upper, path}
 use Rattle.rows.specs.Rules.{Numbered}
-use Rattle.growth.specs.Good.{isGood}
+use Rattle.join.specs.Good.{isGood}
 
 -- k is the count that the code's checks go by
 pub record Site (c : ℕ) (p : Parts) (k : ℕ) (t : Table) (z v : ℕ) (l : ℤ) : Type 0 where

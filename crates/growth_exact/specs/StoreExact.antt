@@ -27,8 +27,8 @@ use Rattle.growth_laws.specs.SmallNumbers.{end-within}
 use Rattle.growth_laws.specs.Trees.{own-trees, stored, parent-upper}
 use Rattle.renumber.specs.NumberWalk.{Walked}
 use Rattle.renumber.specs.Renumber.{renumbered}
-use Rattle.growth.specs.Attach.{attached}
-use Rattle.growth.specs.Store.{recorded}
+use Rattle.join.specs.Attach.{attached}
+use Rattle.join.specs.Store.{recorded}
 use Rattle.renumbering.specs.Column.{put, put-other}
 use Rattle.growth_exact.specs.Columns.{Holds, holds-set, set-same, set-link, past}
 use Rattle.growth_exact.specs.AttachExact.{Quiet}

@@ -9,7 +9,7 @@ use Rattle.rows.specs.Layout.{parentPlace, rootPlace, treePlace}
 use Rattle.rows.specs.Row.{Parts, partsOf, fieldAt, entryAt}
 use Rattle.rows.specs.Write.{withField}
 use Rattle.renumber.specs.NumberWalk.{Written, written}
-use Rattle.growth.specs.Lone.{loneFields, loneNumbers, loneEntries}
+use Rattle.join.specs.Lone.{loneFields, loneNumbers, loneEntries}
 
 -- row w, where it is of the tree, keeps its stored parent as a root
 unfoldable pub keptParent : List ℕ → ℕ → ℕ → List ℕ → List ℕ

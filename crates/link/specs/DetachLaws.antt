@@ -9,7 +9,7 @@ use Rattle.rows.specs.Layout.{parentPlace, rootPlace, treePlace}
 use Rattle.rows.specs.Row.{fieldAt, entryAt}
 use Rattle.rows.specs.Write.{withField}
 use Rattle.renumber.specs.NumberWalk.{Written, written}
-use Rattle.growth.specs.Lone.{loneFields, loneNumbers, loneEntries}
+use Rattle.join.specs.Lone.{loneFields, loneNumbers, loneEntries}
 use Rattle.link.specs.Detach.{keptParent, keptParents, turnedLine, partedRow, partedRows, turnedFields, detachedFrom}
 
 -- stored parents kept

@@ -7,11 +7,11 @@ use Rattle.laws.specs.Test.{pick}
 use Rattle.tree_laws.specs.Ancestor.{none}
 use Rattle.rows.specs.Layout.{labelPlace, rootPlace}
 use Rattle.rows.specs.Row.{Parts, fieldAt, levelAt}
-use Rattle.growth.specs.declared.plan.Planned.{Planned}
-use Rattle.growth.specs.declared.plan.Planned.the-variants.{Grow, Start, Refuse}
+use Rattle.join.specs.declared.plan.Planned.{Planned}
+use Rattle.join.specs.declared.plan.Planned.the-variants.{Grow, Start, Refuse}
+use Rattle.join.specs.Plan.{plannedRow}
+use Rattle.join.specs.Store.{Stored, stored, storedBy}
 use Rattle.growth.specs.Level.{levelOf, onLevel}
-use Rattle.growth.specs.Plan.{plannedRow}
-use Rattle.growth.specs.Store.{Stored, stored, storedBy}
 
 -- what was planned: the stores, or nothing
 unfoldable pub storedAs : Parts → ℕ → Planned → Stored

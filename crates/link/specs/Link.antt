@@ -17,9 +17,9 @@ use Rattle.rows.specs.State.{isStanding}
 use Rattle.rows.specs.Table.{tableOf}
 use Rattle.rows.specs.Tree.{treeAt, rootAt}
 use Rattle.inspect_laws.specs.Inspects.{inspects}
+use Rattle.join.specs.Store.{Stored}
 use Rattle.growth.specs.Fitting.{onFit}
 use Rattle.growth.specs.Plan.{isLabel}
-use Rattle.growth.specs.Store.{Stored}
 use Rattle.link.specs.declared.Linked.{Linked}
 use Rattle.link.specs.declared.check.Checked.{Checked}
 use Rattle.link.specs.declared.check.Checked.the-variants.{Serve, Refuse}

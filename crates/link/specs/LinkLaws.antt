@@ -18,10 +18,10 @@ use Rattle.rows.specs.Row.{Parts, partsOf, levelAt}
 use Rattle.rows.specs.State.{isStanding}
 use Rattle.rows.specs.StateLaws.{says-standing}
 use Rattle.renumber.specs.NumberWalk.{written}
+use Rattle.join.specs.Good.{Held}
+use Rattle.join.specs.Store.{Stored, stored}
 use Rattle.growth.specs.Fitting.{onFit}
-use Rattle.growth.specs.Good.{Held}
 use Rattle.growth.specs.Plan.{isLabel}
-use Rattle.growth.specs.Store.{Stored, stored}
 use Rattle.link.specs.declared.Linked.the-variants.{Under, Refused}
 use Rattle.link.specs.declared.check.Checked.{Checked}
 use Rattle.link.specs.declared.check.Checked.the-variants.{Serve, Refuse}

@@ -9,15 +9,15 @@ use Rattle.tree_laws.specs.Ancestor.{none}
 use Rattle.rows.specs.Layout.{rootPlace}
 use Rattle.rows.specs.declared.refusal.Refusal.{Refusal}
 use Rattle.rows.specs.Row.{Parts, fieldAt, levelAt}
+use Rattle.join.specs.declared.plan.Plan.{Plan}
+use Rattle.join.specs.declared.plan.Planned.{Planned}
+use Rattle.join.specs.declared.plan.Planned.the-variants.{Grow, Start, Refuse}
+use Rattle.join.specs.Plan.{plannedRow}
+use Rattle.join.specs.Store.{Stored, stored, storedBy}
 use Rattle.growth.specs.declared.level.Level.{Level}
 use Rattle.growth.specs.declared.level.Level.the-variants.{At, Out}
-use Rattle.growth.specs.declared.plan.Plan.{Plan}
-use Rattle.growth.specs.declared.plan.Planned.{Planned}
-use Rattle.growth.specs.declared.plan.Planned.the-variants.{Grow, Start, Refuse}
 use Rattle.growth.specs.Level.{levelOf}
-use Rattle.growth.specs.Plan.{plannedRow}
-use Rattle.growth.specs.Store.{Stored, stored, storedBy}
-use Rattle.link.specs.declared.join.Joining.{Joining}
+use Rattle.link.specs.declared.joins.Joining.{Joining}
 use Rattle.link.specs.JoinRow.{labelFor, storedAs, joinedUnder, joinRow}
 use Rattle.link.specs.Walk.{within32, walking, joining, joinedOn, nextDepth, joinTurn, joinWalk}
 

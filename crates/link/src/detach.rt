@@ -1,5 +1,5 @@
 // The rows of a tree detached: each stands alone, and its root field, which says nothing in such a row, holds the row that it will come under.
-use growth::lone::stand_alone;
+use join::lone::stand_alone;
 use rows::layout::NONE;
 use rows::layout::PARENT;
 use rows::layout::ROOT;

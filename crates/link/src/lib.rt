@@ -2,7 +2,7 @@
 use crate::check::Checked;
 use crate::check::check_link;
 use crate::detach::detach;
-use crate::join::join_walk;
+use crate::joins::join_walk;
 use crate::sort::sort_rows;
 use inspect::work;
 use rows::refusal::Refusal;
@@ -12,13 +12,13 @@ ghost use Prim.Native.Nat.{_≤_};
 ghost use lib.ListN.{length};
 ghost use Rattle.rows.specs.Row.{partsOf};
 ghost use Rattle.rows.specs.Capacity.{capacityLimit};
-ghost use Rattle.growth.specs.Good.{Held};
-ghost use Rattle.growth.specs.Store.{stored};
+ghost use Rattle.join.specs.Good.{Held};
+ghost use Rattle.join.specs.Store.{stored};
 ghost use Rattle.link.specs.Link.{joinedTree, LinkCall};
 
 mod check;
 mod detach;
-mod join;
+mod joins;
 mod sort;
 
 // A link that was served: how many rows its joins renumbered, added up.

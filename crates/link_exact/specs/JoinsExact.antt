@@ -30,8 +30,8 @@ use Rattle.growth_laws.specs.JoinStep.{step-planted, join-keeps}
 use Rattle.growth_laws.specs.Renumbered.{rows}
 use Rattle.link_laws.specs.Joinings.{Joinings, done, next}
 use Rattle.link_laws.specs.JoiningsLaws.{Before}
-use Rattle.growth.specs.Good.{isGood}
-use Rattle.growth.specs.Store.{stored}
+use Rattle.join.specs.Good.{isGood}
+use Rattle.join.specs.Store.{stored}
 use Rattle.renumbering.specs.Column.{put-other}
 use Rattle.growth_exact.specs.Site.{Site}
 use Rattle.growth_exact.specs.PlanExact.{h, row-planned, level-planned, joinedParts, joinedTable, site-stored, site-fits, site-step, site-roots}

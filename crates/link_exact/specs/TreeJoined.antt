@@ -10,7 +10,7 @@ use Rattle.rows.specs.Capacity.{Fits, capacityLimit}
 use Rattle.rows.specs.Table.{Table, tableOf, level}
 use Rattle.rows.specs.PlainTree.{first}
 use Rattle.rows.specs.Rules.{Rules}
-use Rattle.growth.specs.Store.{stored}
+use Rattle.join.specs.Store.{stored}
 use Rattle.link_laws.specs.Levels.{levelsFrom}
 use Rattle.link_laws.specs.Link.{Linkable, Linked}
 use Rattle.link_laws.specs.LinkLaws.{link-rows}

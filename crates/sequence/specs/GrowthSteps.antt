@@ -16,7 +16,7 @@ use Rattle.rows.specs.Table.{label}
 use Rattle.rows.specs.PlainTree.{plain, root as rootOf}
 use Rattle.rows.specs.StoredTree.{labelLimit}
 use Rattle.numbering.specs.TreeTests.{root-is}
-use Rattle.growth.specs.declared.plan.Planned.the-variants.{Refuse}
+use Rattle.join.specs.declared.plan.Planned.the-variants.{Refuse}
 use Rattle.growth.specs.Plan.{firstPlan, leafPlan, overPlan, rootPlan}
 use Rattle.growth.specs.PlanLaws.{leaf-scratch, leaf-unknown, leaf-label, leaf-full, first-scratch, first-full, root-scratch, root-full}
 use Rattle.growth.specs.PlanLaws.{over-scratch, over-unknown, over-other, over-full}

@@ -14,8 +14,8 @@ use Rattle.rows.specs.PlainTree.{plain}
 use Rattle.rows.specs.CapacityLaws.{fits-told}
 use Rattle.rows.specs.StoredTree.{labelLimit}
 use Rattle.rows.specs.Rules.{numbered}
-use Rattle.growth.specs.declared.plan.Planned.{Planned}
-use Rattle.growth.specs.declared.plan.Planned.the-variants.{Refuse}
+use Rattle.join.specs.declared.plan.Planned.{Planned}
+use Rattle.join.specs.declared.plan.Planned.the-variants.{Refuse}
 use Rattle.growth.specs.Plan.{isLabel}
 use Rattle.growth.specs.Outcome.{Outcome}
 use Rattle.growth.specs.Growth.{Result, grownBy}

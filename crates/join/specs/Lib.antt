@@ -1,0 +1,13 @@
+pub mod Good
+pub mod Chain
+pub mod ChainLaws
+pub mod Attach
+pub mod Lone
+pub mod CheckWalk
+pub mod CheckWalkLaws
+pub mod Copied
+pub mod CopiedLaws
+pub mod Plan
+pub mod PlanLaws
+pub mod Store
+pub mod StoreLaws

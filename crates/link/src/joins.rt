@@ -1,0 +1,184 @@
+// The joins of a link: the rows that wait, each alone, come one after another under the rows that their root fields name.
+use growth::level::Level;
+use growth::level::leaf_level;
+use inspect_tree::cells::cell;
+use join::plan::Planned;
+use join::plan::plan_row;
+use join::store::store;
+use rows::layout::LABEL;
+use rows::layout::NONE;
+use rows::layout::ROOT;
+use rows::row::field;
+use rows::row::level;
+ghost use mathlib.Core.Path.{_≡_};
+ghost use Prim.Native.Nat.{_+_, _*_};
+ghost use lib.IntN.{pos, _+ℤ_};
+ghost use Rattle.rows.specs.Row.{levelAt, partsOf};
+ghost use Rattle.join.specs.Good.{Held};
+ghost use Rattle.join.specs.Store.{stored};
+ghost use Rattle.growth.specs.Level.{levelOf};
+ghost use Rattle.link.specs.JoinRow.{labelFor, storedAs, joinRow};
+ghost use Rattle.link.specs.Sort.{cellAt};
+ghost use Rattle.link.specs.Walk.{within32, walking, joining, nextDepth, joinTurn, joinWalk};
+
+// Where the walk stands: a row, its depth below the linked root, and how many rows were renumbered.
+pub struct Joining {
+    pub row: u16,
+    pub depth: u16,
+    pub rows: u32,
+}
+
+// The label of row z: the door's for the linked root x, else its own.
+fn label_for(fields: &[u16], x: u16, door: u16, z: u16) -> u16
+    ensures { λ r. ⌜ r ≡ labelFor (now (fields .entry)) x door z ⌝ }
+{
+    if z == x {
+        return door;
+    }
+    field(fields, z, LABEL)
+}
+
+// One level below row v, where that is a level.
+fn level_under(levels: &[i32], v: u16) -> Level
+    ensures { λ r. ⌜ r ≡ levelOf (levelAt (now (levels .entry)) v +ℤ pos 1) ⌝ }
+{
+    leaf_level(level(levels, v))
+}
+
+// What was planned: the stores, or nothing.
+fn store_planned(
+    fields: &mut [u16],
+    numbers: &mut [u64],
+    levels: &mut [i32],
+    ancestors: &mut [u16],
+    n: u16,
+    planned: Planned,
+) -> u16
+    ensures { λ r. ⌜ stored (partsOf (now (fields .exit)) (now (numbers .exit)) (now (levels .exit)) (now (ancestors .exit))) r ≡ storedAs (partsOf (now (fields .entry)) (now (numbers .entry)) (now (levels .entry)) (now (ancestors .entry))) n planned ⌝ }
+{
+    match planned {
+        Planned::Grow(g) => store(fields, numbers, levels, ancestors, n, g),
+        Planned::Start(_) => 0,
+        Planned::Refuse(_) => 0,
+    }
+}
+
+// Row z joins, and how many rows that renumbers.
+fn join_row(
+    fields: &mut [u16],
+    numbers: &mut [u64],
+    levels: &mut [i32],
+    ancestors: &mut [u16],
+    n: u16,
+    x: u16,
+    door: u16,
+    z: u16,
+) -> u16
+    requires { ⌜ Held n (now fields) (now numbers) (now levels) ⌝ }
+    ensures { λ r. ⌜ stored (partsOf (now (fields .exit)) (now (numbers .exit)) (now (levels .exit)) (now (ancestors .exit))) r ≡ joinRow (partsOf (now (fields .entry)) (now (numbers .entry)) (now (levels .entry)) (now (ancestors .entry))) n x door z ⌝ }
+{
+    let v = field(fields, z, ROOT);
+    let label = label_for(fields, x, door, z);
+    let Level::At(l) = level_under(levels, v) else {
+        return 0;
+    };
+    let planned = plan_row(fields, numbers, levels, ancestors, n, z, v, l, label, NONE);
+    store_planned(fields, numbers, levels, ancestors, n, planned)
+}
+
+// Rows added up in 32 bits.
+fn add_rows(total: u32, rows: u16) -> u32
+    ensures { λ r. ⌜ r ≡ within32 (total + rows) ⌝ }
+{
+    let more = rows as u32;
+    if 4294967295 - total < more {
+        return 4294967295;
+    }
+    total + more
+}
+
+// On to the next depth, unless this was the last.
+fn next_depth(heads: &[u16], n: u16, j: Joining) -> Joining
+    ensures { λ r. ⌜ r ≡ nextDepth (cellAt (now (heads .entry))) n j ⌝ }
+{
+    if n <= j.depth {
+        return j;
+    }
+    let depth = j.depth + 1;
+    if n <= depth {
+        return j;
+    }
+    Joining {
+        row: cell(heads, depth),
+        depth: depth,
+        rows: j.rows,
+    }
+}
+
+// One turn of the walk.
+fn join_turn(
+    fields: &mut [u16],
+    numbers: &mut [u64],
+    levels: &mut [i32],
+    ancestors: &mut [u16],
+    heads: &[u16],
+    links: &[u16],
+    n: u16,
+    x: u16,
+    door: u16,
+    j: Joining,
+) -> Joining
+    requires { ⌜ Held n (now fields) (now numbers) (now levels) ⌝ }
+    ensures { λ r. ⌜ walking (partsOf (now (fields .exit)) (now (numbers .exit)) (now (levels .exit)) (now (ancestors .exit))) r ≡ joinTurn (cellAt (now (heads .entry))) (cellAt (now (links .entry))) n x door (walking (partsOf (now (fields .entry)) (now (numbers .entry)) (now (levels .entry)) (now (ancestors .entry))) j) ⌝ }
+{
+    if j.row == NONE {
+        return next_depth(heads, n, j);
+    }
+    let next = cell(links, j.row);
+    let rows = join_row(fields, numbers, levels, ancestors, n, x, door, j.row);
+    Joining {
+        row: next,
+        depth: j.depth,
+        rows: add_rows(j.rows, rows),
+    }
+}
+
+// All rows of the lists, depth by depth; two turns for each row in use are enough.
+pub fn join_walk(
+    fields: &mut [u16],
+    numbers: &mut [u64],
+    levels: &mut [i32],
+    ancestors: &mut [u16],
+    heads: &[u16],
+    links: &[u16],
+    n: u16,
+    x: u16,
+    door: u16,
+) -> u32
+    requires { ⌜ Held n (now fields) (now numbers) (now levels) ⌝ }
+    ensures { λ r. ⌜ stored (partsOf (now (fields .exit)) (now (numbers .exit)) (now (levels .exit)) (now (ancestors .exit))) r ≡ joinWalk (2 * n) (cellAt (now (heads .entry))) (cellAt (now (links .entry))) n x door (walking (partsOf (now (fields .entry)) (now (numbers .entry)) (now (levels .entry)) (now (ancestors .entry))) (joining (cellAt (now (heads .entry)) 0) 0 0)) ⌝ }
+{
+    let mut j = Joining {
+        row: cell(heads, 0),
+        depth: 0,
+        rows: 0,
+    };
+    let steps = (n as u32) * 2;
+    let mut k: u32 = 0;
+    while k < steps {
+        j = join_turn(
+            fields,
+            numbers,
+            levels,
+            ancestors,
+            heads,
+            links,
+            n,
+            x,
+            door,
+            j,
+        );
+        k += 1;
+    }
+    j.rows
+}
