@@ -14,8 +14,8 @@ use Rattle.rows.specs.Rules.{Rules, numbered}
 use Rattle.numbering.specs.Numbered.{InTree, storedTree}
 use Rattle.numbering.specs.Lines.{root-in}
 use Rattle.numbering.specs.LevelLaws.{plain-tree}
+use Rattle.ancestry.specs.StoredAnswer.{storedAnswer}
 use Rattle.query.specs.Line.{isLineLevel}
-use Rattle.query.specs.StoredAnswer.{storedAnswer}
 use Rattle.question.specs.StoredExact.{stored-exact}
 use Rattle.question.specs.PlainExact.{says-line}
 use Rattle.alike.specs.PlainParent.{towardRoot, plainUp}

@@ -12,9 +12,9 @@ use Rattle.rows.specs.Capacity.{Fits}
 use Rattle.rows.specs.Table.{Table, parent, upper}
 use Rattle.rows.specs.Spans.{p}
 use Rattle.span.specs.Rank.{rankOf}
-use Rattle.query.specs.declared.stored.Fork.{Fork}
-use Rattle.query.specs.CompressedStep.{atEntry, pastEntry, pastReach, sideFrom}
-use Rattle.query.specs.StoredAnswer.{between, storedAnswer}
+use Rattle.ancestry.specs.declared.stored.Fork.{Fork}
+use Rattle.ancestry.specs.CompressedStep.{atEntry, pastEntry, pastReach, sideFrom}
+use Rattle.ancestry.specs.StoredAnswer.{between, storedAnswer}
 use Rattle.query.specs.PlainAnswer.{leadsOn}
 use Rattle.query.specs.Question.{question}
 

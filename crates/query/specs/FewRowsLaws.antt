@@ -23,20 +23,20 @@ use Rattle.rows.specs.Capacity.{Fits}
 use Rattle.rows.specs.CapacityLaws.{fits-told}
 use Rattle.rows.specs.Table.{Table, tableOf}
 use Rattle.rows.specs.Spans.{p}
-use Rattle.query.specs.declared.compressed.Side.{Side}
-use Rattle.query.specs.declared.stored.Fork.{Fork}
-use Rattle.query.specs.Reading.{IsRow, isRow}
-use Rattle.query.specs.CompressedStep.{sideFrom, compressedSide}
+use Rattle.ancestry.specs.declared.compressed.Side.{Side}
+use Rattle.ancestry.specs.declared.stored.Fork.{Fork}
+use Rattle.ancestry.specs.Reading.{IsRow, isRow}
+use Rattle.ancestry.specs.CompressedStep.{sideFrom, compressedSide}
+use Rattle.ancestry.specs.StoredAnswer.{Asked, isOnRow, meeting, branchOf, between, join, alone, lost, storedFrom, storedAnswer, forked}
+use Rattle.ancestry.specs.Agreement.{Agree, Both, column, is-row-same, side-both, side-same, meeting-agree, join-same}
 use Rattle.query.specs.Line.{eqZ, isLineLevel}
-use Rattle.query.specs.StoredAnswer.{Asked, isOnRow, meeting, branchOf, between, join, alone, lost, storedFrom, storedAnswer, forked}
 use Rattle.query.specs.PlainAnswer.{isAbove, leadsOn, lowerX, lowerY, lowered, areRows, plainFrom, plainAnswer}
 use Rattle.query.specs.Outcome.{Outcome, refused}
 use Rattle.query.specs.Question.{valuesOf, isServed, served, onSought, asked, question}
 use Rattle.query.specs.Sought.{soughtIn}
 use Rattle.query.specs.SoughtLaws.{sought-at, sought-same}
-use Rattle.query.specs.AnswerRows.{are-rows}
+use Rattle.query.specs.PlainAnswerRows.{are-rows}
 use Rattle.query.specs.QuestionLaws.{tests-asked}
-use Rattle.query.specs.Agreement.{Agree, Both, column, is-row-same, side-both, side-same, meeting-agree, join-same}
 use Rattle.query.specs.FewRows.{SameRow, DrawsOn, sideRows, storedRows, onward, lowerRows, treeRows, rowsRead, most}
 
 -- what holds of every number of a list

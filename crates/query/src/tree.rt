@@ -7,12 +7,6 @@ ghost use mathlib.Core.Path.{_≡_};
 ghost use lib.Dec.{ltb};
 ghost use Rattle.query.specs.Sought.{soughtIn};
 
-// The count of a table, and the root of one of its trees.
-pub struct Seen {
-    pub count: u16,
-    pub root: u16,
-}
-
 // The root of a tree; or no tree, since the nodes stand in different ones; or none found, where a number read is no row in use.
 pub enum Sought {
     Root(u16),

@@ -17,10 +17,10 @@ use Rattle.rows.specs.Rules.{Rules, numbered}
 use Rattle.numbering.specs.Numbered.{InTree, storedTree, anc-tree}
 use Rattle.numbering.specs.Lines.{root-in, line-over, over-line}
 use Rattle.numbering.specs.LevelLaws.{treeParent, treeDepth, level-distance, line-level, level-line}
-use Rattle.query.specs.declared.stored.Fork.{Fork}
+use Rattle.ancestry.specs.declared.stored.Fork.{Fork}
+use Rattle.ancestry.specs.StoredAnswer.{storedAnswer}
 use Rattle.query.specs.Line.{isLineLevel}
 use Rattle.query.specs.LevelLaws.{says-eqZ}
-use Rattle.query.specs.StoredAnswer.{storedAnswer}
 use Rattle.query.specs.PlainAnswer.{isAbove, leadsOn, lowerX, lowerY, lowered, areRows, plainFrom, plainAnswer}
 use Rattle.query.specs.PlainAnswerLaws.{plain-lowered, plain-kept}
 use Rattle.question.specs.PlainShape.{tree-shape, plain-anc, plain-steps, plain-characteristic}

@@ -26,7 +26,7 @@ use Rattle.rows.specs.Rules.{Rules, numbered}
 use Rattle.rows.specs.State.{isStanding}
 use Rattle.rows.specs.StateLaws.{says-standing}
 use Rattle.numbering.specs.Numbered.{InTree, in-tree}
-use Rattle.query.specs.StoredAnswer.{alone, storedFrom, storedAnswer}
+use Rattle.ancestry.specs.StoredAnswer.{alone, storedFrom, storedAnswer}
 use Rattle.query.specs.PlainAnswer.{plainAnswer}
 use Rattle.query.specs.Outcome.{Outcome, answer, refused}
 use Rattle.query.specs.Question.{isServed, served, question}

@@ -42,10 +42,10 @@ use Rattle.join.specs.Store.{recorded, storedBy}
 use Rattle.growth.specs.Level.{levelOf}
 use Rattle.growth.specs.Plan.{leafWithin, leafPlan, rootOver, rootWithin, rootPlan}
 use Rattle.growth.specs.Growth.{served, startedFields, started as treeStarted, grownBy, addLeaf, addRoot}
+use Rattle.ancestry.specs.Reading.{isRow, covers}
+use Rattle.ancestry.specs.CompressedStep.{arrive, climb, atEntry, pastEntry, pastReach, pastSpan, sideFrom}
+use Rattle.ancestry.specs.StoredAnswer.{isOnRow, forked, meeting, branchOf, join, between, storedFrom}
 use Rattle.query.specs.Sought.{soughtIn}
-use Rattle.query.specs.Reading.{isRow, covers}
-use Rattle.query.specs.CompressedStep.{arrive, climb, atEntry, pastEntry, pastReach, pastSpan, sideFrom}
-use Rattle.query.specs.StoredAnswer.{isOnRow, forked, meeting, branchOf, join, between, storedFrom}
 use Rattle.query.specs.PlainAnswer.{isAbove, leadsOn, lowerX, lowerY, lowered, areRows, plainFrom, plainAnswer}
 use Rattle.query.specs.Question.{isServed, served as answerServed, asked, question}
 use Rattle.sequence.specs.Run.{step, run, totalIn}
