@@ -1,13 +1,13 @@
 // The rows that a question reads. A row is checked first; then its numbers are read with no test, since it lies within the parts.
 use crate::seen::Seen;
-use rows::check::is_sound;
+use row_check::is_sound;
+use row_check::row_at;
 use rows::layout::ENTRIES;
 use rows::layout::FIELDS;
 use rows::layout::NEXT_FREE;
 use rows::layout::NUMBERS;
 use rows::layout::SET_SIZE;
 use rows::layout::START;
-use rows::row::row_at;
 use span::Span;
 ghost use mathlib.Core.Path.{_≡_};
 ghost use Prim.Native.Nat.{_+_, _*_, _<_};

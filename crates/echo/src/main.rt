@@ -5,12 +5,6 @@ use transcript::transcribe;
 ghost use mathlib.Core.Path.{_≡_};
 ghost use lib.ListN.{length};
 
-mod page;
-mod reply;
-mod serve;
-mod transcript;
-mod turn;
-
 // The log's buffer; the contract gives only the length, which lending it needs.
 fn log_buffer() -> [u8; 16384]
     ensures { λ r. ⌜ 16384 ≡ length r ⌝ }

@@ -1,6 +1,6 @@
 // The check of a row that is read before another joins.
-use rows::check::is_sound;
-use rows::row::row_at;
+use row_check::is_sound;
+use row_check::row_at;
 ghost use mathlib.Core.Path.{_≡_};
 ghost use Rattle.join.specs.Good.{Held, isGood};
 

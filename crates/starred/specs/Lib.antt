@@ -1,2 +1,4 @@
+pub mod Engine
 pub mod Cases
 pub mod StarredCases
+pub mod WorkedLog

@@ -1,0 +1,103 @@
+// All that the program prints for a log.
+mod buffer;
+mod reply;
+mod serve;
+mod turn;
+
+use buffer::put_text;
+use lines::end_line;
+use lines::header;
+use rows::layout::ENTRIES;
+use rows::layout::FIELDS;
+use rows::layout::NUMBERS;
+use set_up::Made;
+use set_up::set_up;
+use turn::Reading;
+use turn::take_turn;
+ghost use mathlib.Core.Path.{_≡_};
+ghost use mathlib.Core.List.{_++_};
+ghost use Prim.Native.Nat.{_+_, _*_, _≤_};
+ghost use lib.ListN.{length, take};
+ghost use Rattle.io.specs.Counts.{Counts};
+ghost use Rattle.rows.specs.Row.{partsOf};
+ghost use Rattle.transcript.specs.Bounds.{Opens, Sized};
+ghost use Rattle.transcript.specs.Session.{sessionOf};
+ghost use Rattle.transcript.specs.Transcript.{readLog, transcript};
+
+// The rows of the program's table.
+const ROWS: usize = 128;
+
+// Where the reading ended, and how many bytes of the buffer are filled.
+pub struct Page {
+    pub reading: Reading,
+    pub filled: usize,
+}
+
+// The lines of all fields, after the first `filled` bytes.
+fn read_fields(
+    log: &[u8],
+    out: &mut [u8],
+    fields: &mut [u16],
+    numbers: &mut [u64],
+    levels: &mut [i32],
+    ancestors: &mut [u16],
+    scratch: &[u16],
+    first: Reading,
+    header: usize,
+) -> Page
+    requires { ⌜ Opens first header (length (now log)) (length (now out)) ⌝ }
+    ensures text { λ r. ⌜ take (r .filled) (now (out .exit)) ≡ take header (now (out .entry)) ++ readLog (now (log .entry)) (now (scratch .entry)) (sessionOf (partsOf (now (fields .entry)) (now (numbers .entry)) (now (levels .entry)) (now (ancestors .entry))) first) .text ⌝ }
+    ensures last { λ r. ⌜ sessionOf (partsOf (now (fields .exit)) (now (numbers .exit)) (now (levels .exit)) (now (ancestors .exit))) (r .reading) ≡ readLog (now (log .entry)) (now (scratch .entry)) (sessionOf (partsOf (now (fields .entry)) (now (numbers .entry)) (now (levels .entry)) (now (ancestors .entry))) first) .last ⌝ }
+    ensures room { λ r. ⌜ r .filled ≤ 32 * length (now (log .entry)) + 192 ⌝ }
+{
+    let mut reading = first;
+    let mut filled = header;
+    while reading.on {
+        let t = take_turn(log, fields, numbers, levels, ancestors, scratch, reading);
+        let text = t.text;
+        filled = put_text(out, filled, text);
+        reading = t.reading;
+    }
+    Page {
+        reading: reading,
+        filled: filled,
+    }
+}
+
+// Header, the lines of the fields and the last line, and how many bytes they are.
+pub fn transcribe(log: &[u8], out: &mut [u8]) -> usize
+    requires { ⌜ Sized (length (now log)) (length (now out)) ⌝ }
+    ensures text { λ r. ⌜ take r (now (out .exit)) ≡ transcript (now (log .entry)) ⌝ }
+    ensures counts { λ r. ⌜ Counts r (now (out .exit)) ⌝ }
+{
+    let mut fields = [0u16; ROWS * FIELDS];
+    let mut numbers = [0u64; ROWS * NUMBERS];
+    let mut levels = [0i32; ROWS];
+    let mut ancestors = [0u16; ROWS * ENTRIES];
+    let scratch = [0u16; ROWS];
+    let Made::Empty(state) = set_up(&mut fields, &mut numbers, &mut levels, &mut ancestors) else {
+        return 0;
+    };
+    let first = Reading {
+        place: 0,
+        ordinal: 1,
+        total: 0,
+        state: state,
+        on: true,
+    };
+    let filled = put_text(out, 0, header(ROWS as u32));
+    let page = read_fields(
+        log,
+        out,
+        &mut fields,
+        &mut numbers,
+        &mut levels,
+        &mut ancestors,
+        &scratch,
+        first,
+        filled,
+    );
+    let last = page.reading;
+    let end = last.state;
+    put_text(out, page.filled, end_line(end.count as u32, last.total))
+}
