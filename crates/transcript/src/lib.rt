@@ -1,4 +1,4 @@
-// All that the program prints for a log.
+// All that the log program prints for a log: header, a line to each field that prints one, and the last line.
 mod buffer;
 mod reply;
 mod serve;
