@@ -3,8 +3,8 @@ use mathlib.Core.List.{List, [], _∷_, _++_}
 use Prim.Native.Nat.{ℕ, _+_, _*_}
 use lib.IntN.{ℤ}
 use Rattle.laws.specs.Tabulate.{tabulate}
-use Rattle.bytes_tree.specs.Bytes.{bytes, valueAt}
-use Rattle.bytes_tree.specs.Sign.{signed}
+use Rattle.byte_numbers.specs.Bytes.{bytes, valueAt}
+use Rattle.byte_numbers.specs.Sign.{signed}
 
 -- n numbers of w bytes each, from a place on
 unfoldable pub numbersAt : ℕ → ℕ → List ℕ → ℕ → List ℕ

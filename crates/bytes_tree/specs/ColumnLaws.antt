@@ -6,8 +6,8 @@ use native.Mathlib.Omega.{arith}
 use native.Mathlib.Numerals.{add-one}
 use lib.ListN.{length, take, getD, length-append}
 use lib.Seq.{take-suc, length-take-le, sets}
-use Rattle.bytes_tree.specs.Bytes.{bytes}
-use Rattle.bytes_tree.specs.BytesLaws.{length-bytes, sets-join}
+use Rattle.byte_numbers.specs.Bytes.{bytes}
+use Rattle.byte_numbers.specs.BytesLaws.{length-bytes, sets-join}
 use Rattle.bytes_tree.specs.Column.{columnOf}
 
 module _ (w : ℕ) where

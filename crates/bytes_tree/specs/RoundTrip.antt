@@ -11,10 +11,10 @@ use Rattle.rows.specs.declared.state.State.{State}
 use Rattle.rows.specs.Row.{Parts, partsOf}
 use Rattle.rows.specs.Capacity.{Fits}
 use Rattle.laws.specs.Tabulate.{tabulate, tabulateFrom, tabulated}
-use Rattle.bytes_tree.specs.Bytes.{value, bytes, valueAt}
-use Rattle.bytes_tree.specs.BytesLaws.{length-bytes, value-bytes, bytes-value}
-use Rattle.bytes_tree.specs.Sign.{signed, unsigned, Levels32}
-use Rattle.bytes_tree.specs.SignLaws.{signed-unsigned, unsigned-signed, unsigned-small}
+use Rattle.byte_numbers.specs.Bytes.{value, bytes, valueAt}
+use Rattle.byte_numbers.specs.BytesLaws.{length-bytes, value-bytes, bytes-value}
+use Rattle.byte_numbers.specs.Sign.{signed, unsigned, Levels32}
+use Rattle.byte_numbers.specs.SignLaws.{signed-unsigned, unsigned-signed, unsigned-small}
 use Rattle.bytes_tree.specs.Column.{numbersAt, levelsAt, columnOf}
 use Rattle.bytes_tree.specs.ColumnLaws.{length-column}
 use Rattle.bytes_tree.specs.Tree.{treeRows, fieldCount, numberCount, entryCount, treeBytes, fieldsPlace, numbersPlace, levelsPlace, ancestorsPlace, stateIn, partsIn, encoded, Under, InBytes}

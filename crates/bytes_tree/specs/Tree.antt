@@ -5,8 +5,8 @@ use lib.ListN.{length, getD}
 use Rattle.rows.specs.declared.state.State.{State}
 use Rattle.rows.specs.Layout.{fieldStride, numberStride, entryStride}
 use Rattle.rows.specs.Row.{Parts, partsOf}
-use Rattle.bytes_tree.specs.Bytes.{bytes, valueAt}
-use Rattle.bytes_tree.specs.Sign.{unsigned, Levels32}
+use Rattle.byte_numbers.specs.Bytes.{bytes, valueAt}
+use Rattle.byte_numbers.specs.Sign.{unsigned, Levels32}
 use Rattle.bytes_tree.specs.Column.{numbersAt, levelsAt, columnOf}
 
 -- how many rows

@@ -10,9 +10,9 @@ use Rattle.rows.specs.declared.state.State.{State}
 use Rattle.rows.specs.Row.{Parts, partsOf}
 use Rattle.rows.specs.Capacity.{Fits}
 use Rattle.laws.specs.Tabulate.{length-tabulate}
-use Rattle.bytes_tree.specs.Bytes.{bytes, valueAt}
-use Rattle.bytes_tree.specs.BytesLaws.{sets-join, sets-all}
-use Rattle.bytes_tree.specs.Sign.{signed, unsigned}
+use Rattle.byte_numbers.specs.Bytes.{bytes, valueAt}
+use Rattle.byte_numbers.specs.BytesLaws.{sets-join, sets-all}
+use Rattle.byte_numbers.specs.Sign.{signed, unsigned}
 use Rattle.bytes_tree.specs.Column.{numbersAt, levelsAt, columnOf}
 use Rattle.bytes_tree.specs.ColumnLaws.{length-column}
 use Rattle.bytes_tree.specs.Tree.{treeRows, fieldCount, numberCount, entryCount, treeBytes, fieldsPlace, numbersPlace, levelsPlace, ancestorsPlace, partsIn, encoded}

@@ -1,18 +1,18 @@
 // Columns of a byte tree, one loop to a width: from bytes at a place into a part of a table, and back.
-use crate::sign::to_bits;
-use crate::sign::to_level;
-use crate::word::put16;
-use crate::word::put32;
-use crate::word::put64;
-use crate::word::word16;
-use crate::word::word32;
-use crate::word::word64;
+use byte_numbers::sign::to_bits;
+use byte_numbers::sign::to_level;
+use byte_numbers::word::put16;
+use byte_numbers::word::put32;
+use byte_numbers::word::put64;
+use byte_numbers::word::word16;
+use byte_numbers::word::word32;
+use byte_numbers::word::word64;
 ghost use mathlib.Core.Path.{_≡_};
 ghost use mathlib.Core.List.{map};
 ghost use Prim.Native.Nat.{_+_, _*_, _≤_};
 ghost use lib.ListN.{length};
 ghost use lib.Seq.{sets};
-ghost use Rattle.bytes_tree.specs.Sign.{unsigned, Levels32};
+ghost use Rattle.byte_numbers.specs.Sign.{unsigned, Levels32};
 ghost use Rattle.bytes_tree.specs.Column.{numbersAt, levelsAt, columnOf};
 
 pub fn read16(b: &[u8], place: usize, part: &mut [u16])

@@ -12,7 +12,7 @@ use Rattle.growth.specs.Growth.{Result as Growth, addLeaf, addRoot}
 use Rattle.query.specs.Question.{question}
 use Rattle.bytes_tree.specs.Tree.{treeRows, treeBytes, stateIn, partsIn, encoded}
 use Rattle.replies.specs.Reply.{stateOf, Reply, reply, misfit, onLength}
-use Rattle.replies.specs.ByteReply.{grownBytes, questionBytes}
+use Rattle.byte_replies.specs.ByteReply.{grownBytes, questionBytes}
 
 -- the reply, and the tree's bytes afterwards
 pub record Outcome : Type 0 where

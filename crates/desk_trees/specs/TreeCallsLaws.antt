@@ -19,7 +19,7 @@ use Rattle.bytes_tree.specs.Tree.{treeRows, treeBytes, stateIn, partsIn, encode
 use Rattle.bytes_tree.specs.RoundTrip.{state-back, parts-back}
 use Rattle.replies.specs.Reply.{reply, misfit, onLength}
 use Rattle.replies.specs.ReplyLaws.{on-length, off-length}
-use Rattle.replies.specs.ByteReply.{grownBytes, questionBytes}
+use Rattle.byte_replies.specs.ByteReply.{grownBytes, questionBytes}
 use Rattle.desk_trees.specs.TreeCalls.{outcome, Held, madeBytes, MadeHeld, setUpTree, treeAfter, GrownHeld, GrowthHeld, afterGrowth, onLengths, leafTree, rootTree, questionTree}
 
 module _ {B : Type 0} (b : List ℕ) {A : Type 0} (out : List A) (n : ℕ) (served other : B) where

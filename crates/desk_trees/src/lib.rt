@@ -1,4 +1,6 @@
 // Byte trees of capacity 128 for a C host, as include/vundreli.h declares them: the bytes are read into a table on the stack, and written back where a growth was served.
+use byte_replies::reply_answered;
+use byte_replies::reply_grown;
 use bytes_tree::tree::BYTES;
 use bytes_tree::tree::ENTRY_COUNT;
 use bytes_tree::tree::FIELD_COUNT;
@@ -8,8 +10,6 @@ use bytes_tree::tree::read_parts;
 use bytes_tree::tree::read_state;
 use bytes_tree::tree::write_tree;
 use growth::Grown;
-use replies::bytes::reply_answered;
-use replies::bytes::reply_grown;
 use rows::refusal::Refusal;
 use rows::refusal::number_of;
 use set_up::Made;

@@ -1,3 +1,2 @@
 pub mod Reply
 pub mod ReplyLaws
-pub mod ByteReply

@@ -1,6 +1,4 @@
 // An answer as 0 and values in an out slice, or 01's refusal number and the out slice as it was.
-pub mod bytes;
-
 use alike::Compared;
 use growth::Grown;
 use inspect::Inspected;

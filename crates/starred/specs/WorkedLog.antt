@@ -14,7 +14,7 @@ use Rattle.transcript.specs.Report.{report}
 use Rattle.transcript.specs.Session.{stepOf}
 use Rattle.transcript.specs.Transcript.{scratch, readFrom, readLog, transcript}
 use Rattle.transcript.specs.Asked.{call}
-use Rattle.transcript.specs.Listing.{Item, whole, callsIn, repliesFrom, linesFrom, sumOf, listing}
+use Rattle.transcript_exact.specs.Listing.{Item, whole, callsIn, repliesFrom, linesFrom, sumOf, listing}
 use Rattle.starred.specs.Engine.{engine}
 
 -- a root, leaf 0 7, leaf 1 9, question 1 2, leaf 5 7, a root, question 2 3

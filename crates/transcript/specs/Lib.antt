@@ -11,10 +11,3 @@ pub mod PageLaws
 pub mod PlaceLaws
 pub mod TranscriptLaws
 pub mod WholeLaws
-pub mod Level
-pub mod Listing
-pub mod LevelLaws
-pub mod Logged
-pub mod ReadingLaws
-pub mod ReplyLaws
-pub mod Exact

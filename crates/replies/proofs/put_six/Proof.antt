@@ -1,7 +1,7 @@
 -- `put_six` fills an out slice of that length.
 use mathlib.Core.Path.{_∙_}
 use mathlib.Core.List.{[], _∷_}
-use Rattle.bytes_tree.specs.BytesLaws.{sets-all}
+use Rattle.byte_numbers.specs.BytesLaws.{sets-all}
 use native.Mathlib.Omega.{arith}
 use lib.ListN.{length-set}
 use mir.Syntax.{w32}

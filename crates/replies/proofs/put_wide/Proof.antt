@@ -1,6 +1,6 @@
 -- `put_wide` fills an out slice of that length.
 use mathlib.Core.List.{[], _∷_}
-use Rattle.bytes_tree.specs.BytesLaws.{sets-all}
+use Rattle.byte_numbers.specs.BytesLaws.{sets-all}
 use borrow.Author.Needs.{needs}
 use Rattle.replies.proofs.put_wide.Statement.{statement}
 use Rattle.replies.proofs.put_wide.Tie as tie

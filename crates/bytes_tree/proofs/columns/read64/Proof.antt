@@ -3,7 +3,7 @@ use Prim.Native.Nat.{_+_, _*_, _-_}
 use native.Mathlib.Omega.{arith}
 use lib.ListN.{length}
 use Rattle.laws.specs.Tabulate.{Begun, begun-none, begun-more, begun-all}
-use Rattle.bytes_tree.specs.Bytes.{valueAt}
+use Rattle.byte_numbers.specs.Bytes.{valueAt}
 use Rattle.bytes_tree.specs.Column.{numbersAt}
 use Rattle.bytes_tree.proofs.columns.read64.Statement.{statement}
 use Rattle.bytes_tree.proofs.columns.read64.Tie as tie

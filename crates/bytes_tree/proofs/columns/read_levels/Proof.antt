@@ -8,8 +8,8 @@ use mir.Val.{toZ, ofZ}
 use mir.ValLaws.{toZ-ofZ}
 use lib.ListN.{length}
 use Rattle.laws.specs.Tabulate.{Begun, begun-none, begun-more, begun-all}
-use Rattle.bytes_tree.specs.Bytes.{valueAt}
-use Rattle.bytes_tree.specs.Sign.{signed}
+use Rattle.byte_numbers.specs.Bytes.{valueAt}
+use Rattle.byte_numbers.specs.Sign.{signed}
 use Rattle.bytes_tree.specs.Column.{levelsAt}
 use Rattle.bytes_tree.proofs.columns.read_levels.Statement.{statement}
 use Rattle.bytes_tree.proofs.columns.read_levels.Tie as tie

@@ -5,7 +5,7 @@ use Prim.Native.Nat.{ℕ, _+_, _*_, _-_, _≤_}
 use native.Mathlib.Omega.{arith}
 use lib.ListN.{length, take, getD}
 use lib.Seq.{sets, length-sets, take-all}
-use Rattle.bytes_tree.specs.Bytes.{bytes}
+use Rattle.byte_numbers.specs.Bytes.{bytes}
 use Rattle.bytes_tree.specs.Column.{columnOf}
 use Rattle.bytes_tree.specs.ColumnLaws.{store-more}
 use Rattle.bytes_tree.proofs.columns.write16.Statement.{statement}

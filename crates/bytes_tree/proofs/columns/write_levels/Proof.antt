@@ -10,8 +10,8 @@ use mir.Syntax.{w32}
 use mir.Val.{SFits}
 use mir.ValLaws.{toZ-ofZ}
 use lib.Seq.{sets, length-sets, take-all}
-use Rattle.bytes_tree.specs.Bytes.{bytes}
-use Rattle.bytes_tree.specs.Sign.{unsigned}
+use Rattle.byte_numbers.specs.Bytes.{bytes}
+use Rattle.byte_numbers.specs.Sign.{unsigned}
 use Rattle.bytes_tree.specs.Column.{columnOf}
 use Rattle.bytes_tree.specs.ColumnLaws.{store-more}
 use Rattle.bytes_tree.proofs.columns.write_levels.Statement.{statement}
