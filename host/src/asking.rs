@@ -27,21 +27,21 @@ impl Reading<'_> {
 
     pub fn question(&mut self, x: u16, y: u16) -> Reply<[i32; 6]> {
         let root = self.shared_root(x, y)?;
-        let (from_x, from_y) = (self.row(x)?.level, self.row(y)?.level);
+        let (from_x, from_y) = (self.node(x)?.level, self.node(y)?.level);
         let fork = self.plain_fork(root, x, y)?;
-        let nca = self.row(fork.nca)?;
+        let nca = self.node(fork.nca)?;
         let distance = |level: i64| (level - nca.level) as i32;
-        Ok([fork.nca.into(), fork.to_x.into(), fork.to_y.into(), distance(from_x), distance(from_y), nca.label.into()])
+        Ok([fork.nca.into(), fork.to_x.into(), fork.to_y.into(), distance(from_x), distance(from_y), nca.row.label.into()])
     }
 
     /// The stored answer, unless the line to the root goes on below it towards x or y: then the answer is where that node leaves the line.
     fn plain_fork(&mut self, root: u16, x: u16, y: u16) -> Reply<Fork> {
         let fork = self.stored_fork(x, y)?;
-        if fork.nca == root || !self.row(fork.nca)?.is_on_line() {
+        if fork.nca == root || !self.node(fork.nca)?.is_on_line() {
             return Ok(fork);
         }
         self.row(root)?;
-        let on = [self.row(fork.to_x)?.is_on_line() && fork.to_x != fork.nca, self.row(fork.to_y)?.is_on_line() && fork.to_y != fork.nca];
+        let on = [self.node(fork.to_x)?.is_on_line() && fork.to_x != fork.nca, self.node(fork.to_y)?.is_on_line() && fork.to_y != fork.nca];
         if !on[0] && !on[1] {
             return Ok(fork);
         }
@@ -127,11 +127,11 @@ impl Reading<'_> {
         self.row(root)?;
         let (mut x, mut y) = (x, y);
         for _ in 0..self.table.count {
-            let (row_x, row_y) = (self.row(x)?, self.row(y)?);
-            if row_x.level != row_y.level {
+            let (at_x, at_y) = (self.node(x)?, self.node(y)?);
+            if at_x.level != at_y.level {
                 return Ok(0);
             }
-            if x == y || row_x.label != row_y.label {
+            if x == y || at_x.row.label != at_y.row.label {
                 return Ok((x == y) as u16);
             }
             (x, y) = (self.plain_parent(x, root)?, self.plain_parent(y, root)?);
@@ -143,9 +143,9 @@ impl Reading<'_> {
     /// The row above in the plain tree; a row on the line to the root has the next one of that line.
     fn plain_parent(&mut self, z: u16, root: u16) -> Reply<u16> {
         self.must(z != root, Cause::NoParent)?;
-        let row = self.row(z)?;
-        if !row.is_on_line() {
-            return self.some(row.parent, Cause::NoParent);
+        let node = self.node(z)?;
+        if !node.is_on_line() {
+            return self.some(node.row.parent, Cause::NoParent);
         }
         let fork = self.stored_fork(z, root)?;
         self.must(fork.nca == z, Cause::NoBranch)?;

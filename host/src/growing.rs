@@ -99,8 +99,9 @@ impl Reading<'_> {
 
     /// A leaf under a parent, so many levels below it.
     fn join(&mut self, parent: u16, levels: i64) -> Reply<Grown> {
-        let above = self.row(parent)?;
+        let above = self.node(parent)?;
         self.must(LEVELS.contains(&(above.level + levels)), Cause::NewLevel)?;
+        let above = above.row;
         let leaf = Leaf { row: self.table.count, parent, before: above.last };
         let upper = self.upper_under(parent, &above)?;
         let chain = self.chain(upper)?;

@@ -1,5 +1,6 @@
 //! Which rows of a table, filled with anything, a call reads, and what it says then: by the words of documents 01 and 02 and of docs/DECISIONS.md.
-//! A row is read whole: refusal 4 where it is not in use or holds something out of range. Every row read is kept, and why a table was refused by 4.
+//! A row is read whole: refusal 4 where it is not in use or holds something out of range. A level is read by itself, where one is needed.
+//! Every row read is kept, and why a table was refused by 4.
 
 use std::collections::BTreeSet;
 
@@ -60,7 +61,6 @@ pub struct Row {
     pub set_size: u128,
     pub depth: i64,
     pub label: u16,
-    pub level: i64,
     pub start: u128,
     pub next_free: u128,
 }
@@ -77,10 +77,18 @@ impl Row {
     pub fn end(&self) -> u128 {
         self.start + 5 * self.set_size.pow(4)
     }
+}
 
+/// A row with its level.
+pub struct Node {
+    pub row: Row,
+    pub level: i64,
+}
+
+impl Node {
     /// On the line from its tree's first row to the root a row's level is minus its depth.
     pub fn is_on_line(&self) -> bool {
-        self.level + self.depth == 0
+        self.level + self.row.depth == 0
     }
 }
 
@@ -203,13 +211,19 @@ impl Reading<'_> {
             set_size: self.size_at(v, SET_SIZE, Cause::SetSize)?,
             depth: i64::from(self.field(v, DEPTH)),
             label: self.field(v, LABEL),
-            level: i64::from(self.table.levels.part()[v as usize]),
             start: self.number_at(v, START),
             next_free: self.number_at(v, NEXT_FREE),
         };
         self.must(row.end() <= LIMIT, Cause::End)?;
         self.must(row.next_free <= LIMIT, Cause::NextFree)?;
-        self.must(LEVELS.contains(&row.level), Cause::Level)?;
         Ok(row)
+    }
+
+    /// A row that is sought, and its level, which is read too.
+    pub fn node(&mut self, v: u16) -> Reply<Node> {
+        let row = self.row(v)?;
+        let level = i64::from(self.table.levels.part()[v as usize]);
+        self.must(LEVELS.contains(&level), Cause::Level)?;
+        Ok(Node { row, level })
     }
 }

@@ -5,4 +5,8 @@ pub mod CompressedStepLaws
 pub mod StoredAnswer
 pub mod StoredAnswerLaws
 pub mod AnswerRows
+pub mod PathFields
 pub mod Agreement
+pub mod Every
+pub mod StoredRows
+pub mod StoredRowsLaws

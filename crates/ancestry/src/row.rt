@@ -1,55 +1,25 @@
-// The rows that a question reads. A row is checked first; then its numbers are read with no test, since it lies within the parts.
-use crate::seen::Seen;
-use row_check::is_sound;
-use row_check::row_at;
-use rows::layout::ENTRIES;
-use rows::layout::FIELDS;
-use rows::layout::NEXT_FREE;
-use rows::layout::NUMBERS;
-use rows::layout::SET_SIZE;
-use rows::layout::START;
+// Reads of rows that were checked: they lie within the parts, so nothing is tested again.
+use layer::layout::ENTRIES;
+use layer::layout::FIELDS;
+use layer::layout::NEXT_FREE;
+use layer::layout::NUMBERS;
+use layer::layout::SET_SIZE;
+use layer::layout::START;
 use span::Span;
+use span::part;
 ghost use mathlib.Core.Path.{_≡_};
-ghost use Prim.Native.Nat.{_+_, _*_, _<_};
+ghost use Prim.Native.Nat.{_+_, _*_, _≤_, _<_};
 ghost use lib.Dec.{ltb};
 ghost use lib.ListN.{length};
-ghost use Rattle.rows.specs.Layout.{fieldStride, numberStride, entryStride};
-ghost use Rattle.rows.specs.Row.{fieldAt, numberAt, levelAt, entryAt, spanIn};
-ghost use Rattle.rows.specs.Spans.{p, reach};
-ghost use Rattle.ancestry.specs.Reading.{Holds, IsRow, asTable, isRow, covers};
+ghost use Rattle.span.specs.Constants.{limit};
+ghost use Rattle.span.specs.Numbers.{pOf, reachOf};
+ghost use Rattle.layer.specs.Layout.{setSizePlace, fieldStride, startPlace, numberStride, entryStride};
+ghost use Rattle.layer.specs.Row.{fieldAt, numberAt, entryAt, spanIn, rowOf, Within};
+ghost use Rattle.ancestry.specs.Reading.{InFields, Spanned, covers};
 
-// v is a row in use that holds nothing out of range.
-pub fn is_row(
-    fields: &[u16],
-    numbers: &[u64],
-    levels: &[i32],
-    ancestors: &[u16],
-    state: Seen,
-    v: u16,
-) -> bool
-    requires { ⌜ Holds (state .count) (now fields) (now numbers) (now levels) (now ancestors) ⌝ }
-    ensures { λ r. ⌜ r ≡ isRow (asTable (now (fields .entry)) (now (numbers .entry)) (now (levels .entry)) (now (ancestors .entry)) state) v ⌝ }
-{
-    let count = state.count;
-    if count <= v {
-        return false;
-    }
-    is_sound(row_at(fields, numbers, levels, v), count)
-}
-
-// Field k of a sound row.
-pub fn field_of(
-    fields: &[u16],
-    numbers: &[u64],
-    levels: &[i32],
-    ancestors: &[u16],
-    state: Seen,
-    v: u16,
-    k: u16,
-) -> u16
-    requires { ⌜ Holds (state .count) (now fields) (now numbers) (now levels) (now ancestors) ⌝ }
-    requires { ⌜ IsRow (asTable (now fields) (now numbers) (now levels) (now ancestors) state) v ⌝ }
-    requires { ⌜ k < fieldStride ⌝ }
+// Field k of a row within the fields.
+pub fn field_of(fields: &[u16], v: u16, k: u16) -> u16
+    requires { ⌜ v * fieldStride + k < length (now fields) ⌝ }
     ensures { λ r. ⌜ r ≡ fieldAt (now (fields .entry)) v k ⌝ }
 {
     let i = (v as usize) * FIELDS + (k as usize);
@@ -65,15 +35,6 @@ fn number_of(numbers: &[u64], v: u16, k: u16) -> u64
     numbers[i]
 }
 
-// The level of a row within the levels.
-pub fn level_of(levels: &[i32], v: u16) -> i32
-    requires { ⌜ v < length (now levels) ⌝ }
-    ensures { λ r. ⌜ r ≡ levelAt (now (levels .entry)) v ⌝ }
-{
-    let i = v as usize;
-    levels[i]
-}
-
 // Ancestor entry i of a row within the entries.
 pub fn entry_of(ancestors: &[u16], v: u16, i: u16) -> u16
     requires { ⌜ v * entryStride + i < length (now ancestors) ⌝ }
@@ -83,21 +44,13 @@ pub fn entry_of(ancestors: &[u16], v: u16, i: u16) -> u16
     ancestors[k]
 }
 
-// The span of a sound row.
-fn span_of(
-    fields: &[u16],
-    numbers: &[u64],
-    levels: &[i32],
-    ancestors: &[u16],
-    state: Seen,
-    v: u16,
-) -> Span
-    requires { ⌜ Holds (state .count) (now fields) (now numbers) (now levels) (now ancestors) ⌝ }
-    requires { ⌜ IsRow (asTable (now fields) (now numbers) (now levels) (now ancestors) state) v ⌝ }
+// The span of a row within the parts.
+fn span_of(fields: &[u16], numbers: &[u64], v: u16) -> Span
+    requires { ⌜ Within v (now fields) (now numbers) ⌝ }
     ensures { λ r. ⌜ r ≡ spanIn (now (fields .entry)) (now (numbers .entry)) v ⌝ }
 {
     let start = number_of(numbers, v, START);
-    let set_size = field_of(fields, numbers, levels, ancestors, state, v, SET_SIZE);
+    let set_size = field_of(fields, v, SET_SIZE);
     let next_free = number_of(numbers, v, NEXT_FREE);
     Span {
         start: start,
@@ -106,56 +59,30 @@ fn span_of(
     }
 }
 
-// The number p of a sound row.
-pub fn p_at(
-    fields: &[u16],
-    numbers: &[u64],
-    levels: &[i32],
-    ancestors: &[u16],
-    state: Seen,
-    v: u16,
-) -> u64
-    requires { ⌜ Holds (state .count) (now fields) (now numbers) (now levels) (now ancestors) ⌝ }
-    requires { ⌜ IsRow (asTable (now fields) (now numbers) (now levels) (now ancestors) state) v ⌝ }
-    ensures { λ r. ⌜ r ≡ p (asTable (now (fields .entry)) (now (numbers .entry)) (now (levels .entry)) (now (ancestors .entry)) state) v ⌝ }
+// The number p of a row whose span lies within the limit.
+pub fn p_at(fields: &[u16], numbers: &[u64], v: u16) -> u64
+    requires { ⌜ Spanned (now fields) (now numbers) v ⌝ }
+    ensures { λ r. ⌜ r ≡ pOf (numberAt (now (numbers .entry)) v startPlace) (fieldAt (now (fields .entry)) v setSizePlace) ⌝ }
 {
-    let span = span_of(fields, numbers, levels, ancestors, state, v);
+    let span = span_of(fields, numbers, v);
     span.p()
 }
 
-// The reach of a sound row is over the distance d.
-pub fn reaches(
-    fields: &[u16],
-    numbers: &[u64],
-    levels: &[i32],
-    ancestors: &[u16],
-    state: Seen,
-    v: u16,
-    d: u64,
-) -> bool
-    requires { ⌜ Holds (state .count) (now fields) (now numbers) (now levels) (now ancestors) ⌝ }
-    requires { ⌜ IsRow (asTable (now fields) (now numbers) (now levels) (now ancestors) state) v ⌝ }
-    ensures { λ r. ⌜ r ≡ ltb d (reach (asTable (now (fields .entry)) (now (numbers .entry)) (now (levels .entry)) (now (ancestors .entry)) state) v) ⌝ }
+// The reach of a row, a number within the limit, is over the distance d.
+pub fn reaches(fields: &[u16], v: u16, d: u64) -> bool
+    requires { ⌜ InFields (now fields) v ⌝ }
+    requires { ⌜ reachOf (fieldAt (now fields) v setSizePlace) ≤ limit ⌝ }
+    ensures { λ r. ⌜ r ≡ ltb d (reachOf (fieldAt (now (fields .entry)) v setSizePlace)) ⌝ }
 {
-    let span = span_of(fields, numbers, levels, ancestors, state, v);
-    d < span.q() - span.p()
+    d < (Span::WIDTH - 2) * part(field_of(fields, v, SET_SIZE))
 }
 
-// The number n lies from p to q of a sound row, q excluded.
-pub fn covers(
-    fields: &[u16],
-    numbers: &[u64],
-    levels: &[i32],
-    ancestors: &[u16],
-    state: Seen,
-    v: u16,
-    n: u64,
-) -> bool
-    requires { ⌜ Holds (state .count) (now fields) (now numbers) (now levels) (now ancestors) ⌝ }
-    requires { ⌜ IsRow (asTable (now fields) (now numbers) (now levels) (now ancestors) state) v ⌝ }
-    ensures { λ r. ⌜ r ≡ covers (asTable (now (fields .entry)) (now (numbers .entry)) (now (levels .entry)) (now (ancestors .entry)) state) v n ⌝ }
+// The number n lies from p to q of a row, q excluded.
+pub fn covers(fields: &[u16], numbers: &[u64], v: u16, n: u64) -> bool
+    requires { ⌜ Spanned (now fields) (now numbers) v ⌝ }
+    ensures { λ r. ⌜ r ≡ covers (rowOf (now (fields .entry)) (now (numbers .entry)) v) n ⌝ }
 {
-    let span = span_of(fields, numbers, levels, ancestors, state, v);
+    let span = span_of(fields, numbers, v);
     if n < span.p() {
         return false;
     }

@@ -2,7 +2,7 @@
 use mathlib.Core.List.{List, _++_}
 use Prim.Native.Nat.{ℕ}
 use Rattle.growth.specs.Outcome.{Outcome as GrowthOutcome, refusal as notGrown, node}
-use Rattle.query.specs.Outcome.{Outcome, refusal, answer}
+use Rattle.query.specs.Outcome.{Outcome, refusal, answered}
 use Rattle.byte_numbers.specs.Bytes.{bytes}
 use Rattle.byte_numbers.specs.Sign.{unsigned}
 use Rattle.replies.specs.Reply.{Reply, reply}
@@ -15,4 +15,4 @@ grownBytes out (node c n k) = reply 0 (bytes 2 n ++ bytes 2 k)
 -- the nearest common ancestor, the branches towards x and y, their distances, and the label
 abbrev pub questionBytes : List ℕ → Outcome → Reply ℕ
 questionBytes out (refusal n) = reply n out
-questionBytes out (answer a u v i j l) = reply 0 (bytes 2 a ++ (bytes 2 u ++ (bytes 2 v ++ (bytes 4 (unsigned i) ++ (bytes 4 (unsigned j) ++ bytes 2 l)))))
+questionBytes out (answered a u v i j l) = reply 0 (bytes 2 a ++ (bytes 2 u ++ (bytes 2 v ++ (bytes 4 (unsigned i) ++ (bytes 4 (unsigned j) ++ bytes 2 l)))))

@@ -5,7 +5,7 @@ use byte_numbers::word::put32;
 use growth::Grown;
 use query::Answer;
 use query::Answered;
-use rows::refusal::number_of;
+use table::refusal::number_of;
 ghost use mathlib.Core.Path.{_≡_};
 ghost use lib.ListN.{length};
 ghost use Rattle.growth.specs.Outcome.{outcomeOf as growthOf};

@@ -7,9 +7,9 @@ use native.Mathlib.Omega.{arith}
 use lib.IntN.{ℤ, pos}
 use lib.ListN.{length, take, drop, getD, length-append, length-map, length-take, length-drop, List·getD-map, take-append-drop}
 use lib.Seq.{take-at, take-add, take-all, drop-drop, drop-append-add, getD-take, getD-drop, length-take-le}
-use Rattle.rows.specs.declared.state.State.{State}
-use Rattle.rows.specs.Row.{Parts, partsOf}
-use Rattle.rows.specs.Capacity.{Fits}
+use Rattle.table.specs.declared.state.State.{State}
+use Rattle.table.specs.Parts.{Parts, partsOf}
+use Rattle.table.specs.Capacity.{Fits}
 use Rattle.laws.specs.Tabulate.{tabulate, tabulateFrom, tabulated}
 use Rattle.byte_numbers.specs.Bytes.{value, bytes, valueAt}
 use Rattle.byte_numbers.specs.BytesLaws.{length-bytes, value-bytes, bytes-value}

@@ -2,9 +2,9 @@
 use mathlib.Core.List.{List, _++_, map}
 use Prim.Native.Nat.{ℕ, _+_, _*_, _<_}
 use lib.ListN.{length, getD}
-use Rattle.rows.specs.declared.state.State.{State}
-use Rattle.rows.specs.Layout.{fieldStride, numberStride, entryStride}
-use Rattle.rows.specs.Row.{Parts, partsOf}
+use Rattle.table.specs.declared.state.State.{State}
+use Rattle.layer.specs.Layout.{fieldStride, numberStride, entryStride}
+use Rattle.table.specs.Parts.{Parts, partsOf}
 use Rattle.byte_numbers.specs.Bytes.{bytes, valueAt}
 use Rattle.byte_numbers.specs.Sign.{unsigned, Levels32}
 use Rattle.bytes_tree.specs.Column.{numbersAt, levelsAt, columnOf}

@@ -1,4 +1,4 @@
--- The lengths of a byte tree's parts, and the stores that leave a tree in bytes.
+-- The parts of a byte tree that were read one by one, and the stores that leave a tree in bytes.
 use mathlib.Core.Path.{_≡_, refl, ap, sym, _∙_}
 use mathlib.Core.List.{List, _++_, map}
 use Prim.Native.Nat.{ℕ, _+_, _*_}
@@ -6,36 +6,15 @@ use native.Mathlib.Omega.{arith}
 use lib.IntN.{ℤ}
 use lib.ListN.{length, length-append, length-map}
 use lib.Seq.{sets}
-use Rattle.rows.specs.declared.state.State.{State}
-use Rattle.rows.specs.Row.{Parts, partsOf}
-use Rattle.rows.specs.Capacity.{Fits}
-use Rattle.laws.specs.Tabulate.{length-tabulate}
-use Rattle.byte_numbers.specs.Bytes.{bytes, valueAt}
+use Rattle.table.specs.declared.state.State.{State}
+use Rattle.table.specs.Parts.{Parts, partsOf}
+use Rattle.table.specs.Capacity.{Fits}
+use Rattle.byte_numbers.specs.Bytes.{bytes}
 use Rattle.byte_numbers.specs.BytesLaws.{sets-join, sets-all}
-use Rattle.byte_numbers.specs.Sign.{signed, unsigned}
+use Rattle.byte_numbers.specs.Sign.{unsigned}
 use Rattle.bytes_tree.specs.Column.{numbersAt, levelsAt, columnOf}
 use Rattle.bytes_tree.specs.ColumnLaws.{length-column}
-use Rattle.bytes_tree.specs.Tree.{treeRows, fieldCount, numberCount, entryCount, treeBytes, fieldsPlace, numbersPlace, levelsPlace, ancestorsPlace, partsIn, encoded}
-
-pub length-numbers : (w n : ℕ) (l : List ℕ) (place : ℕ) → length (numbersAt w n l place) ≡ n
-unfolding numbersAt
-length-numbers w n l place = length-tabulate (λ i. valueAt w l (place + i * w)) n
-
-pub length-levels : (n : ℕ) (l : List ℕ) (place : ℕ) → length (levelsAt n l place) ≡ n
-unfolding levelsAt
-length-levels n l place = length-tabulate (λ i. signed (valueAt 4 l (place + i * 4))) n
-
--- the parts that bytes hold fit the capacity
-pub parts-fit : (b : List ℕ) → Fits treeRows (partsIn b)
-unfolding partsIn
-parts-fit b = record {
-  least = omega arith;
-  most = omega arith;
-  levels = length-levels treeRows b _;
-  fields = length-numbers 2 fieldCount b _;
-  numbers = length-numbers 8 numberCount b _;
-  ancestors = length-numbers 2 entryCount b _;
-}
+use Rattle.bytes_tree.specs.Tree.{treeRows, fieldCount, numberCount, treeBytes, fieldsPlace, numbersPlace, levelsPlace, ancestorsPlace, partsIn, encoded}
 
 -- parts that were read one by one
 pub parts-read : (b : List ℕ) (t : Parts) {f m a : List ℕ} {l : List ℤ} → Fits treeRows t

@@ -7,12 +7,12 @@ use crate::columns::write16;
 use crate::columns::write64;
 use byte_numbers::word::put16;
 use byte_numbers::word::word16;
-use rows::layout;
-use rows::state::State;
+use layer::layout;
+use table::state::State;
 ghost use mathlib.Core.Path.{_≡_};
 ghost use lib.ListN.{length};
-ghost use Rattle.rows.specs.Row.{partsOf};
-ghost use Rattle.rows.specs.Capacity.{Fits};
+ghost use Rattle.table.specs.Parts.{partsOf};
+ghost use Rattle.table.specs.Capacity.{Fits};
 ghost use Rattle.bytes_tree.specs.Tree.{treeRows, treeBytes, stateIn, partsIn, encoded, InBytes};
 
 // The rows of a tree, and the numbers of each of its parts.

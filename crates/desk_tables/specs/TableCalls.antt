@@ -4,8 +4,8 @@ use mathlib.Core.List.{List}
 use Prim.Native.Nat.{ℕ, _<_}
 use lib.IntN.{ℤ}
 use lib.ListN.{length}
-use Rattle.rows.specs.declared.state.State.{State}
-use Rattle.rows.specs.Row.{Parts}
+use Rattle.table.specs.declared.state.State.{State}
+use Rattle.table.specs.Parts.{Parts}
 use Rattle.set_up.specs.Blank.{setUp, partsAfter}
 use Rattle.growth.specs.Growth.{Result as Growth, addFirst, addLeaf, addOver}
 use Rattle.link.specs.Link.{Result as Link, linkBy}

@@ -6,9 +6,9 @@ use Prim.Native.Nat.{ℕ, _<_}
 use native.Mathlib.Omega.{arith}
 use lib.IntN.{ℤ}
 use lib.ListN.{length}
-use Rattle.rows.specs.declared.state.State.{State}
-use Rattle.rows.specs.Row.{Parts}
-use Rattle.rows.specs.Refusal.{numberOf}
+use Rattle.table.specs.declared.state.State.{State}
+use Rattle.table.specs.Parts.{Parts}
+use Rattle.table.specs.Refusal.{numberOf}
 use Rattle.set_up.specs.Outcome.{Outcome as SetUpOutcome}
 use Rattle.set_up.specs.Blank.{setUp, partsAfter}
 use Rattle.growth.specs.Outcome.{Outcome as GrowthOutcome}

@@ -6,12 +6,12 @@ use replies::reply_grown;
 use replies::reply_inspected;
 use replies::reply_linked;
 use replies::reply_made;
-use rows::refusal::Refusal;
-use rows::refusal::number_of;
-use rows::state::State;
+use table::refusal::Refusal;
+use table::refusal::number_of;
+use table::state::State;
 ghost use mathlib.Core.Path.{_≡_};
 ghost use lib.ListN.{length};
-ghost use Rattle.rows.specs.Row.{partsOf};
+ghost use Rattle.table.specs.Parts.{partsOf};
 ghost use Rattle.replies.specs.Reply.{stateOf, reply};
 ghost use Rattle.desk_tables.specs.TableCalls.{outcome, setUpCall, firstCall, leafCall, rootCall, LinkCall, questionCall, alikeCall, InspectionCall};
 

@@ -3,8 +3,8 @@
 use mathlib.Core.Path.{_≡_}
 use mathlib.Core.List.{List}
 use Prim.Native.Nat.{ℕ}
-use Rattle.rows.specs.declared.state.State.{State}
-use Rattle.rows.specs.Row.{Parts}
+use Rattle.table.specs.declared.state.State.{State}
+use Rattle.table.specs.Parts.{Parts}
 use Rattle.set_up.specs.Outcome.{Outcome as SetUpOutcome, refusal as notMade, empty}
 use Rattle.set_up.specs.Blank.{setUp, partsAfter}
 use Rattle.growth.specs.Outcome.{Outcome as GrowthOutcome, refusal as notGrown, node}

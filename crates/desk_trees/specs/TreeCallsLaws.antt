@@ -5,9 +5,9 @@ use mathlib.Core.List.{List}
 use Prim.Native.Nat.{ℕ}
 use native.Mathlib.Omega.{arith}
 use lib.ListN.{length}
-use Rattle.rows.specs.declared.state.State.{State}
-use Rattle.rows.specs.Row.{Parts}
-use Rattle.rows.specs.Capacity.{Fits}
+use Rattle.table.specs.declared.state.State.{State}
+use Rattle.table.specs.Parts.{Parts}
+use Rattle.table.specs.Capacity.{Fits}
 use Rattle.set_up.specs.Outcome.{Outcome as SetUpOutcome}
 use Rattle.set_up.specs.Blank.{setUp, partsAfter}
 use Rattle.growth.specs.Outcome.{Outcome as GrowthOutcome}

@@ -2,16 +2,17 @@
 use mathlib.Core.List.{List}
 use Prim.Native.Nat.{ℕ}
 use lib.IntN.{pos}
-use Rattle.rows.specs.declared.state.State.{State}
-use Rattle.rows.specs.Row.{Parts, partsOf}
-use Rattle.rows.specs.Layout.{labelPlace, rootPlace}
-use Rattle.rows.specs.Write.{withField, withLevel}
-use Rattle.join.specs.declared.plan.Plan.{Plan}
-use Rattle.join.specs.declared.plan.Planned.{Planned}
-use Rattle.join.specs.declared.plan.Planned.the-variants.{Grow, Start, Refuse}
+use Rattle.table.specs.declared.state.State.{State}
+use Rattle.table.specs.Parts.{Parts, partsOf}
+use Rattle.table.specs.Layout.{labelPlace, rootPlace}
+use Rattle.layer.specs.Write.{withField}
+use Rattle.table.specs.Parts.{withLevel}
+use Rattle.growth.specs.declared.plan.Plan.{Plan}
+use Rattle.growth.specs.declared.plan.Planned.{Planned}
+use Rattle.growth.specs.declared.plan.Planned.the-variants.{Grow, Start, Refuse}
 use Rattle.renumber.specs.Count.{oneMore}
 use Rattle.join.specs.Lone.{loneFields, loneNumbers, loneEntries}
-use Rattle.join.specs.Store.{Stored, storedBy}
+use Rattle.growth.specs.Store.{Stored, planStored}
 use Rattle.growth.specs.Plan.{firstPlan, leafPlan, overPlan, rootPlan}
 use Rattle.growth.specs.Outcome.{Outcome, refused, node}
 
@@ -29,7 +30,7 @@ nodeAt row rows = node (oneMore row) row rows
 
 -- a growth that was served
 unfoldable pub served : Plan → Stored → Result
-served g s = result (s .parts) (nodeAt (g .leaf .row) (s .given))
+served g s = result (s .parts) (nodeAt (g .seat .leaf .row) (s .given))
 
 -- the fields with a first node n: a row that stands alone, of label 0, its own root
 unfoldable pub startedFields : List ℕ → ℕ → List ℕ
@@ -43,7 +44,7 @@ started t n =
 
 -- by its plan: a refusal changes nothing
 unfoldable pub grownBy : Parts → Planned → Result
-grownBy t (Grow g) = served g (storedBy t (g .leaf .row) g)
+grownBy t (Grow g) = served g (planStored t (g .seat .leaf .row) g)
 grownBy t (Start n) = started t n
 grownBy t (Refuse r) = result t (refused r)
 

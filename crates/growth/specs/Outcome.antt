@@ -1,7 +1,7 @@
 -- What a growth gives in 01's numbers and values, and which of them each case of `Grown` stands for.
 use Prim.Native.Nat.{ℕ}
-use Rattle.rows.specs.declared.refusal.Refusal.{Refusal}
-use Rattle.rows.specs.Refusal.{numberOf}
+use Rattle.table.specs.declared.refusal.Refusal.{Refusal}
+use Rattle.table.specs.Refusal.{numberOf}
 use Rattle.growth.specs.declared.Grown.{Grown}
 use Rattle.growth.specs.declared.Grown.the-variants.{Node, Refused}
 

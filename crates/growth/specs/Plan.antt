@@ -6,18 +6,22 @@ use lib.Dec.{eqb, leb, ltb}
 use lib.IntN.{pos, _+ℤ_, _-ℤ_}
 use Rattle.laws.specs.Test.{pick}
 use Rattle.tree_laws.specs.Ancestor.{none}
-use Rattle.rows.specs.declared.refusal.Refusal.the-variants.{UnknownNode, Full, Misfit, Corrupt, BadLabel, NotRoot}
-use Rattle.rows.specs.declared.state.State.{State}
-use Rattle.rows.specs.Row.{Parts, levelAt}
-use Rattle.rows.specs.Capacity.{capacityOf}
-use Rattle.rows.specs.State.{isStanding}
-use Rattle.rows.specs.Tree.{treeAt, rootAt}
-use Rattle.rows.specs.StoredTree.{labelLimit}
-use Rattle.join.specs.declared.plan.Planned.{Planned}
-use Rattle.join.specs.declared.plan.Planned.the-variants.{Start, Refuse}
-use Rattle.join.specs.Plan.{provided, plannedRow}
-use Rattle.growth.specs.Fitting.{onFit}
-use Rattle.growth.specs.Level.{levelOf, onLevel}
+use Rattle.table.specs.declared.refusal.Refusal.{Refusal}
+use Rattle.table.specs.declared.refusal.Refusal.the-variants.{UnknownNode, Full, Misfit, Corrupt, BadLabel, NotRoot}
+use Rattle.table.specs.declared.state.State.{State}
+use Rattle.table.specs.Parts.{Parts, levelAt}
+use Rattle.table.specs.Capacity.{capacityOf, onFit}
+use Rattle.table.specs.State.{isStanding}
+use Rattle.table.specs.Tree.{treeAt, rootAt}
+use Rattle.table.specs.Rules.{labelLimit}
+use Rattle.growth.specs.declared.plan.Planned.{Planned}
+use Rattle.growth.specs.declared.plan.Planned.the-variants.{Start, Refuse}
+use Rattle.growth.specs.PlannedRow.{plannedRow}
+use Rattle.growth.specs.Level.{levelFrom, onLevel}
+
+-- refused unless a test holds
+abbrev pub provided : Bool → Refusal → Planned → Planned
+provided b r p = pick b p (Refuse r)
 
 abbrev pub isLabel : ℕ → Bool
 isLabel label = leb 1 label && leb label labelLimit
@@ -31,8 +35,8 @@ leafWithin t c scratch s parent label =
     (provided (not (eqb (s .count) c)) Full
     (provided (isStanding c s) Corrupt
     (provided (not (eqb (rootAt (t .fields) (t .ancestors) (s .count) parent) none)) Corrupt
-    (onLevel (levelOf (levelAt (t .levels) parent +ℤ pos 1))
-    (λ level. plannedRow (t .fields) (t .numbers) (t .levels) (t .ancestors) (s .count) (s .count) parent level label none)
+    (onLevel (levelFrom (levelAt (t .levels) parent) (levelAt (t .levels) parent +ℤ pos 1))
+    (λ level. plannedRow (t .fields) (t .numbers) (t .ancestors) (s .count) (s .count) parent level label none)
     (Refuse Corrupt)))))))
 
 -- a leaf of this label under this parent, with a scratch of this length
@@ -53,8 +57,8 @@ firstPlan t scratch s = onFit (capacityOf t) (λ c. firstWithin c scratch s) (Re
 -- a new root over r, the root of the tree whose first row is tree
 unfoldable pub rootOver : Parts → State → ℕ → ℕ → Planned
 rootOver t s tree r =
-    onLevel (levelOf (levelAt (t .levels) r -ℤ pos 1))
-    (λ level. plannedRow (t .fields) (t .numbers) (t .levels) (t .ancestors) (s .count) (s .count) r level 0 tree)
+    onLevel (levelFrom (levelAt (t .levels) r) (levelAt (t .levels) r -ℤ pos 1))
+    (λ level. plannedRow (t .fields) (t .numbers) (t .ancestors) (s .count) (s .count) r level 0 tree)
     (Refuse Corrupt)
 
 -- a new root over x in parts that fit the capacity c

@@ -1,21 +1,21 @@
 // A new leaf before the first store: its refusals in their order, and its plan.
 use crate::level::Level;
 use crate::level::leaf_level;
-use join::plan::Planned;
-use join::plan::plan_row;
-use rows::capacity::Fit;
-use rows::capacity::capacity;
-use rows::layout::LARGEST_LABEL;
-use rows::layout::NONE;
-use rows::refusal::Refusal;
-use rows::row::level;
-use rows::state::State;
-use rows::state::is_standing;
-use rows::tree::root_of;
-use rows::tree::tree_of;
+use crate::plan::Planned;
+use crate::plan::plan_row;
+use layer::layout::NONE;
+use table::capacity::Fit;
+use table::capacity::capacity;
+use table::layout::LARGEST_LABEL;
+use table::level::level;
+use table::refusal::Refusal;
+use table::state::State;
+use table::state::is_standing;
+use table::tree::root_of;
+use table::tree::tree_of;
 ghost use mathlib.Core.Path.{_≡_};
 ghost use lib.ListN.{length};
-ghost use Rattle.rows.specs.Row.{partsOf};
+ghost use Rattle.table.specs.Parts.{partsOf};
 ghost use Rattle.growth.specs.Plan.{isLabel, leafPlan};
 
 // A label that a leaf may have.
@@ -65,7 +65,6 @@ pub fn plan_leaf(
     plan_row(
         fields,
         numbers,
-        levels,
         ancestors,
         state.count,
         state.count,

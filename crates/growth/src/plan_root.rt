@@ -1,21 +1,21 @@
 // A new root before the first store: its refusals in their order, and its plan.
 use crate::level::Level;
 use crate::level::root_level;
-use join::plan::Planned;
-use join::plan::plan_row;
-use rows::capacity::Fit;
-use rows::capacity::capacity;
-use rows::layout::NONE;
-use rows::refusal::Refusal;
-use rows::row::level;
-use rows::state::State;
-use rows::state::is_standing;
-use rows::tree::root_of;
-use rows::tree::tree_of;
+use crate::plan::Planned;
+use crate::plan::plan_row;
+use layer::layout::NONE;
+use table::capacity::Fit;
+use table::capacity::capacity;
+use table::level::level;
+use table::refusal::Refusal;
+use table::state::State;
+use table::state::is_standing;
+use table::tree::root_of;
+use table::tree::tree_of;
 ghost use mathlib.Core.Path.{_≡_};
 ghost use lib.ListN.{length};
-ghost use Rattle.rows.specs.Row.{partsOf};
-ghost use Rattle.join.specs.Good.{Held};
+ghost use Rattle.table.specs.Parts.{partsOf};
+ghost use Rattle.layer.specs.Checked.{Holds};
 ghost use Rattle.growth.specs.Plan.{firstPlan, overPlan, rootOver, rootPlan};
 
 // The plan of a new root over r, the root of the tree whose first row is `tree`.
@@ -28,7 +28,7 @@ fn plan_above(
     tree: u16,
     r: u16,
 ) -> Planned
-    requires { ⌜ Held (state .count) (now fields) (now numbers) (now levels) ⌝ }
+    requires { ⌜ Holds (state .count) (now fields) (now numbers) ⌝ }
     ensures { λ o. ⌜ o ≡ rootOver (partsOf (now (fields .entry)) (now (numbers .entry)) (now (levels .entry)) (now (ancestors .entry))) state tree r ⌝ }
 {
     let Level::At(at) = root_level(level(levels, r)) else {
@@ -37,7 +37,6 @@ fn plan_above(
     plan_row(
         fields,
         numbers,
-        levels,
         ancestors,
         state.count,
         state.count,

@@ -1,12 +1,12 @@
 // The stores of a first node.
 use join::lone::stand_alone;
-use rows::layout::LABEL;
-use rows::layout::ROOT;
-use rows::write::put_field;
-use rows::write::put_level;
+use layer::write::put_field;
+use table::layout::LABEL;
+use table::layout::ROOT;
+use table::level::put_level;
 ghost use mathlib.Core.Path.{_≡_};
 ghost use lib.IntN.{pos};
-ghost use Rattle.rows.specs.Write.{withLevel};
+ghost use Rattle.table.specs.Parts.{withLevel};
 ghost use Rattle.join.specs.Lone.{loneNumbers, loneEntries};
 ghost use Rattle.growth.specs.Growth.{startedFields};
 

@@ -1,34 +1,35 @@
 -- A first node on a table that passes inspection: served, and what it answers and leaves is a row more that stands alone (02, "each begun by a call
 -- for its first node"). 01's new root of an empty table is one.
 use mathlib.Core.Path.{_≡_, refl, ap, _∙_}
-use mathlib.Core.Logic.{_≢_}
 use Prim.Native.Nat.{ℕ, suc, _+_, _*_, _≤_, _<_}
 use native.Mathlib.Omega.{arith}
 use lib.IntN.{pos}
 use lib.ListN.{length-set}
 use lib.Seq.{getD-set-same, getD-set-other}
-use Rattle.rows.specs.declared.state.State.{State}
-use Rattle.rows.specs.Layout.{fieldStride, labelPlace, rootPlace}
-use Rattle.rows.specs.Row.{Parts, partsOf}
-use Rattle.rows.specs.Write.{withLevel}
-use Rattle.rows.specs.Capacity.{Fits}
-use Rattle.rows.specs.Table.{Table, tableOf}
-use Rattle.rows.specs.Rules.{Rules, numbered}
-use Rattle.growth_laws.specs.Extend.{extended-by}
+use Rattle.table.specs.declared.state.State.{State}
+use Rattle.layer.specs.Layout.{fieldStride, depthPlace}
+use Rattle.table.specs.Layout.{labelPlace, rootPlace}
+use Rattle.table.specs.Parts.{Parts, partsOf}
+use Rattle.table.specs.Parts.{withLevel}
+use Rattle.table.specs.Capacity.{Fits}
+use Rattle.table.specs.Table.{Table, tableOf}
+use Rattle.table.specs.Rules.{Rules, numbered}
+use Rattle.join_laws.specs.Extend.{extended-by}
 use Rattle.growth_laws.specs.Grown.{Started}
 use Rattle.growth_laws.specs.GrowthKeepsRules.{start-keeps-rules, start-plain}
-use Rattle.growth_laws.specs.Lag.{lag, worth, perJoin}
-use Rattle.growth_laws.specs.LoneLaws.{parted-lag}
+use Rattle.join_laws.specs.Lag.{lag, worth, perJoin}
+use Rattle.join_laws.specs.LoneLaws.{parted-lag}
 use Rattle.growth_laws.specs.PlainStep.{PlainStart}
-use Rattle.join.specs.declared.plan.Planned.the-variants.{Start}
+use Rattle.growth.specs.declared.plan.Planned.the-variants.{Start}
 use Rattle.join.specs.Lone.{loneNumbers, loneEntries}
 use Rattle.growth.specs.Plan.{rootPlan}
 use Rattle.growth.specs.PlanLaws.{first-row, root-first}
 use Rattle.growth.specs.Outcome.{node}
 use Rattle.growth.specs.Growth.{Result, startedFields, started, grownBy, addFirst, addRoot}
-use Rattle.renumbering.specs.Column.{put, put-other}
-use Rattle.growth_exact.specs.Columns.{RowView, row-set}
-use Rattle.growth_exact.specs.LoneExact.{own, fields, lone-fits, lone-in, kept-in}
+use Rattle.renumber_laws.specs.Column.{put, put-other}
+use Rattle.renumber_exact.specs.Columns.{RowView, row-set}
+use Rattle.join_exact.specs.LoneExact.{own, fields, lone-long, lone-in, kept-in}
+use Rattle.growth_exact.specs.PlanExact.{layerParts, long-parts}
 use Rattle.growth_exact.specs.GrowthExact.{tableGrown, capacity-is, standing-is, count-more}
 
 -- a first node of the parts p, of capacity c, came out as o: served, and as 02 has it
@@ -44,7 +45,7 @@ pub record StartedExactly (c : ℕ) (p : Parts) (s : State) (o : Result) : Type 
   -- the plain trees are one step of the plain list on
   pub plain : PlainStart (tableOf p (s .count)) (tableGrown s o)
   -- the row is paid for
-  pub pays : worth * lag (tableGrown s o) + 1 ≤ worth * lag (tableOf p (s .count)) + perJoin
+  pub pays : worth * lag (tableGrown s o .layer) + 1 ≤ worth * lag (tableOf p (s .count) .layer) + perJoin
 
 module _ {c : ℕ} (p : Parts) (s : State) (fit : Fits c p) (r : Rules c (tableOf p (s .count))) (room : s .count < c) where
   abbrev n : ℕ
@@ -57,26 +58,27 @@ module _ {c : ℕ} (p : Parts) (s : State) (fit : Fits c p) (r : Rules c (tableO
   left = partsOf (startedFields (p .fields) n) (loneNumbers (p .numbers) n) (withLevel (p .levels) n (pos 0)) (loneEntries (p .ancestors) n)
 
   abbrev row : ℕ → ℕ
-  row = put (put (own p fit n room) labelPlace 0) rootPlace n
+  row = put (put (own (layerParts p) (long-parts fit) n room) labelPlace 0) rootPlace n
 
   view : RowView fieldStride c (p .fields) n (startedFields (p .fields) n) row
   unfolding startedFields
-  view = row-set _ (row-set _ (fields p fit n room) room labelPlace 0 (omega arith)) room rootPlace n (omega arith)
+  view = row-set _ (row-set _ (fields (layerParts p) (long-parts fit) n room) room labelPlace 0 (omega arith)) room rootPlace n (omega arith)
 
-  same : (j : ℕ) → j ≢ labelPlace → j ≢ rootPlace → row j ≡ own p fit n room j
-  same j d e = put-other (put (own p fit n room) labelPlace 0) rootPlace n j e ∙ put-other (own p fit n room) labelPlace 0 j d
+  same : (j : ℕ) → j ≤ depthPlace → row j ≡ own (layerParts p) (long-parts fit) n room j
+  same j b = put-other (put (own (layerParts p) (long-parts fit) n room) labelPlace 0) rootPlace n j (λ e. omega arith)
+      ∙ put-other (own (layerParts p) (long-parts fit) n room) labelPlace 0 j (λ e. omega arith)
 
   started-is : Started t (tableOf left (suc n))
   unfolding put
   started-is =
       record {
         extended = extended-by (numbered r (fit .most)) (omega (arith, fit .most)) refl
-            (lone-in p fit n room view same (withLevel (p .levels) n (pos 0)) (suc n))
-            (λ x l. kept-in p fit n room view same (withLevel (p .levels) n (pos 0)) n (suc n) x (λ e. omega arith))
-            (λ x l. record {
-              sameLabel = view .others x labelPlace (omega arith) (λ e. omega arith);
-              sameLevel = getD-set-other (p .levels) n x (pos 0) (pos 0) (λ e. omega arith);
-            });
+            (lone-in (layerParts p) (long-parts fit) n room view same (suc n))
+            (λ x l. kept-in (layerParts p) (long-parts fit) n room view same n (suc n) x (λ e. omega arith));
+        marks = λ x l. record {
+          sameLabel = view .others x labelPlace (omega arith) (λ e. omega arith);
+          sameLevel = getD-set-other (p .levels) n x (pos 0) (pos 0) (λ e. omega arith);
+        };
         labelNew = view .own labelPlace (omega arith);
         levelNew = getD-set-same (p .levels) n (pos 0) (pos 0) (omega (arith, fit .levels));
         rootNew = view .own rootPlace (omega arith);
@@ -86,7 +88,7 @@ module _ {c : ℕ} (p : Parts) (s : State) (fit : Fits c p) (r : Rules c (tableO
   start-exactly : StartedExactly c p s (grownBy p (Start n))
   unfolding grownBy started
   start-exactly =
-      let f = lone-fits p fit n room in
+      let f = lone-long (layerParts p) (long-parts fit) n room in
       record {
         answered = count-more n p fit room 1;
         fits = record {

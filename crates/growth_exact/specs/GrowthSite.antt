@@ -4,47 +4,50 @@ use mathlib.Core.Bool.{true}
 use mathlib.Core.Logic.{_⊎_, inl, inr}
 use Prim.Native.Nat.{ℕ, suc, _+_, _≤_, _<_}
 use native.Mathlib.Omega.{arith}
-use borrow.Author.Tests.{lt-ltb}
+use borrow.Author.Tests.{le-leb}
 use lib.IntN.{ℤ, natAbs, _+ℤ_, _-ℤ_, +ℤ-one, -ℤ-one}
 use Rattle.laws.specs.Test.{says-true}
 use Rattle.tree_laws.specs.Ancestor.{none}
 use Rattle.tree_laws.specs.Join.{Old}
 use Rattle.tree_laws.specs.SizeDepth.{depth-below}
-use Rattle.rows.specs.declared.row.Row.{Row}
-use Rattle.rows.specs.Row.{Parts, rowOf}
-use Rattle.rows.specs.Capacity.{Fits, capacityLimit}
-use Rattle.rows.specs.Sound.{levelLimit}
-use Rattle.rows.specs.SoundLaws.{says-sound}
-use Rattle.rows.specs.PlainTree.{first}
-use Rattle.rows.specs.Table.{Table, tableOf, parent, depth, level}
-use Rattle.rows.specs.Rules.{Rules, Numbered, numbered}
-use Rattle.numbering.specs.Numbered.{shape, in-tree, first-in}
-use Rattle.numbering.specs.SoundRows.{rules-sound, level-depth, abs-suc, abs-pred}
+use Rattle.layer.specs.declared.row.Row.{Row}
+use Rattle.table.specs.Parts.{Parts}
+use Rattle.table.specs.Capacity.{Fits}
+use Rattle.table.specs.Level.{levelLimit}
+use Rattle.layer.specs.StoredTree.{first}
+use Rattle.table.specs.Table.{Table, tableOf}
+use Rattle.layer.specs.Layer.{Layer}
+use Rattle.table.specs.Rules.{Rules, numbered}
+use Rattle.layer.specs.Numbered.{Numbered}
+use Rattle.layer_laws.specs.Numbered.{shape, in-tree, first-in}
+use Rattle.layer_laws.specs.SoundRows.{numbered-sound}
+use Rattle.table_laws.specs.LevelBounds.{level-depth, abs-suc, abs-pred}
 use Rattle.growth_laws.specs.Growth.{Growth, leaf, root, Named, named-leaf, named-root, parentOf, labelOf, levelOf, treeOf}
-use Rattle.growth_laws.specs.Extend.{withLone, row-old, entry-old, extend, extend-alone}
+use Rattle.join_laws.specs.Extend.{withLone, row-old, entry-old, extend, extend-alone}
 use Rattle.growth_laws.specs.Grown.{Grown}
 use Rattle.growth_laws.specs.GrowthKeepsRules.{growth-keeps-rules}
-use Rattle.growth_laws.specs.LoneLaws.{parted-numbered}
-use Rattle.growth_laws.specs.Renumbered.{rows}
-use Rattle.join.specs.declared.plan.Planned.the-variants.{Grow}
-use Rattle.join.specs.Good.{isGood}
-use Rattle.join.specs.Plan.{plannedRow}
-use Rattle.renumbering.specs.Column.{put}
-use Rattle.growth_exact.specs.Site.{Site}
-use Rattle.growth_exact.specs.PlanExact.{h, plan, row-planned, joinedTable, site-step, site-roots}
+use Rattle.join_laws.specs.LoneLaws.{parted-numbered}
+use Rattle.join_laws.specs.Renumbered.{rows}
+use Rattle.growth.specs.declared.plan.Planned.the-variants.{Grow}
+use Rattle.layer.specs.Checked.{isRow}
+use Rattle.layer.specs.CheckedLaws.{says-row}
+use Rattle.growth.specs.declared.level.Level.the-variants.{At}
+use Rattle.growth.specs.Level.{levelFrom}
+use Rattle.growth.specs.PlannedRow.{plannedRow}
+use Rattle.renumber_laws.specs.Column.{put}
+use Rattle.join_exact.specs.Site.{Site}
+use Rattle.join_exact.specs.SeatExact.{h}
+use Rattle.growth_exact.specs.PlanExact.{layerParts, long-parts, plan, row-planned, joinedTable, plan-step, mark-label, mark-level, kept-label, kept-level, plan-roots}
 
--- a row that the walks read is good on a table that passes inspection
-pub good-row : {c : ℕ} (p : Parts) (n : ℕ) → c ≤ capacityLimit → Rules c (tableOf p n) → (y : ℕ) → y < n
-    → isGood (p .fields) (p .numbers) (p .levels) n y ≡ true
-unfolding isGood
-good-row p n small r y l =
-    rw (lt-ltb y n l, says-true (says-sound n (rowOf (p .fields) (p .numbers) (p .levels) y)) (rules-sound r small y l)) refl
+-- a row that the walks read passes the check, in a layer that is numbered
+pub good-row : {t : Layer} → Numbered t → (y : ℕ) → y < t .count → isRow (t .count) (t .row) y ≡ true
+good-row {t} r y l = says-true (says-row (t .count) (t .row) y) record { inUse = l; sound = numbered-sound r y l }
 
 module _ {c : ℕ} (p : Parts) (n : ℕ) (fit : Fits c p) (r : Rules c (tableOf p n)) (room : n < c) (g : Growth) (named : Named (tableOf p n) g) where
   abbrev t : Table
   t = tableOf p n
 
-  num : Numbered t
+  num : Numbered (t .layer)
   num = numbered r (fit .most)
 
   parent-in : parentOf g < n
@@ -60,25 +63,24 @@ module _ {c : ℕ} (p : Parts) (n : ℕ) (fit : Fits c p) (r : Rules c (tableOf 
   level-within : natAbs (levelOf t g) ≤ levelLimit
   level-within = go named
     where
-      low : (v : ℕ) → v < n → natAbs (level t v) + 1 ≤ levelLimit
+      low : (v : ℕ) → v < n → natAbs (t .level v) + 1 ≤ levelLimit
       low v l = omega (arith, level-depth r (fit .most) v l, depth-below (shape num) v l, fit .most)
 
       go : {g : Growth} → Named t g → natAbs (levelOf t g) ≤ levelLimit
-      go (named-leaf {v = v} l a b) = rw +ℤ-one (omega (arith, abs-suc (level t v), low v l))
-      go (named-root {r = v} l e) = rw -ℤ-one (omega (arith, abs-pred (level t v), low v l))
+      go (named-leaf {v = v} l a b) = rw +ℤ-one (omega (arith, abs-suc (t .level v), low v l))
+      go (named-root {r = v} l e) = rw -ℤ-one (omega (arith, abs-pred (t .level v), low v l))
 
-  pub site : Site c p n (withLone t) n (parentOf g) (levelOf t g)
+  pub site : Site c (layerParts p) n (withLone (t .layer)) n (parentOf g)
   site = record {
-    fit = fit;
+    long = long-parts fit;
     room = omega arith;
-    was = parted-numbered num (extend t num (omega (arith, fit .most)) .parted);
-    alone = extend-alone t num;
+    was = parted-numbered num (extend (t .layer) num (omega (arith, fit .most)) .parted);
+    alone = extend-alone (t .layer) num;
     over = record { inside = omega (arith, parent-in); other = λ e. omega (arith, parent-in) };
-    row = λ y o. sym (row-old t y (old-in y o));
-    entry = λ y i o b. sym (entry-old t y i (old-in y o));
-    good = λ y o. good-row p n (fit .most) r y (old-in y o);
-    deep = λ y o. omega (arith, ap (λ (r : Row). r .depth) (row-old t y (old-in y o)), depth-below (shape num) y (old-in y o));
-    level = level-within;
+    row = λ y o. sym (row-old (t .layer) y (old-in y o));
+    entry = λ y i o b. sym (entry-old (t .layer) y i (old-in y o));
+    good = λ y o. good-row num y (old-in y o);
+    deep = λ y o. omega (arith, ap (λ (r : Row). r .depth) (row-old (t .layer) y (old-in y o)), depth-below (shape num) y (old-in y o));
   }
 
   tree-in : (treeOf t g ≡ none) ⊎ (treeOf t g < c)
@@ -88,25 +90,37 @@ module _ {c : ℕ} (p : Parts) (n : ℕ) (fit : Fits c p) (r : Rules c (tableOf 
       go (named-leaf l a b) = inl refl
       go (named-root {r = v} l e) = inr (omega (arith, first-in num (in-tree num v l)))
 
+  -- its level is one, as is the level that it is made from
+  pub level-planned : (w : ℤ) → natAbs w ≤ levelLimit → levelFrom w (levelOf t g) ≡ At (levelOf t g)
+  unfolding levelFrom
+  level-planned w b = rw (le-leb (natAbs w) levelLimit b, le-leb (natAbs (levelOf t g)) levelLimit level-within) refl
+
   -- planned, with no refusal
-  pub grows : plannedRow (p .fields) (p .numbers) (p .levels) (p .ancestors) n n (parentOf g) (levelOf t g) (labelOf g) (treeOf t g) ≡ Grow (plan site (labelOf g) (treeOf t g))
-  grows = row-planned site (labelOf g) (treeOf t g)
+  pub grows : plannedRow (p .fields) (p .numbers) (p .ancestors) n n (parentOf g) (levelOf t g) (labelOf g) (treeOf t g)
+      ≡ Grow (plan fit site (levelOf t g) (labelOf g) (treeOf t g))
+  grows = row-planned fit site (levelOf t g) (labelOf g) (treeOf t g)
 
   abbrev pub headRow : ℕ
-  headRow = h site (labelOf g) (treeOf t g)
+  headRow = h site
 
   abbrev pub tableGrown : Table
-  tableGrown = joinedTable site (labelOf g) (treeOf t g)
+  tableGrown = joinedTable fit site (levelOf t g) (labelOf g) (treeOf t g)
 
   -- stored, and as 01 has it
   pub grown : Grown t tableGrown g headRow
   unfolding put
   grown = record {
     named = named;
-    alone = withLone t;
-    extended = extend t num (omega (arith, fit .most));
-    step = site-step site (labelOf g) (treeOf t g);
-    roots = λ x l. site-roots site (labelOf g) (treeOf t g) tree-in x (omega arith) (λ e. omega arith);
+    alone = withLone (t .layer);
+    extended = extend (t .layer) num (omega (arith, fit .most));
+    step = plan-step fit site (levelOf t g) (labelOf g) (treeOf t g);
+    marks = λ x l. record {
+      sameLabel = kept-label fit site (levelOf t g) (labelOf g) (treeOf t g) x (λ e. omega arith);
+      sameLevel = kept-level fit site (levelOf t g) (labelOf g) (treeOf t g) x (λ e. omega arith);
+    };
+    labelNew = mark-label fit site (levelOf t g) (labelOf g) (treeOf t g);
+    levelNew = mark-level fit site (levelOf t g) (labelOf g) (treeOf t g);
+    roots = λ x l. plan-roots fit site (levelOf t g) (labelOf g) (treeOf t g) tree-in x (omega arith) (λ e. omega arith);
   }
 
   pub grown-rules : Rules c tableGrown

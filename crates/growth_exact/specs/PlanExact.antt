@@ -1,219 +1,96 @@
--- At a site a row is planned: no refusal, and the plan's head is the head of its chain.
-use mathlib.Core.Path.{_≡_, refl, ap, sym, _∙_}
-use mathlib.Core.Bool.{Bool, true, false, _||_, not}
+-- At a site a row is planned with its marks, and what is stored by the plan is a join in the layer, with the label, the level and the root record asked for.
+use mathlib.Core.Path.{_≡_, ap, sym, _∙_}
 use mathlib.Core.Logic.{_⊎_, _≢_}
-use mathlib.Core.List.{List}
 use Prim.Native.Nat.{ℕ, _<_}
-use native.Mathlib.Decide.{ℕ-discrete}
 use native.Mathlib.Omega.{arith}
-use borrow.Author.Tests.{ne-eqb, eq-eqb, le-leb}
-use lib.Dec.{eqb}
-use lib.IntN.{ℤ, natAbs}
-use Rattle.laws.specs.Test.{pick}
+use lib.IntN.{ℤ, pos}
+use lib.ListN.{length-set}
+use lib.Seq.{getD-set-same, getD-set-other}
 use Rattle.tree_laws.specs.Ancestor.{none}
-use Rattle.tree_laws.specs.Join.{Old}
-use Rattle.tree_laws.specs.JoinLaws.{old-up}
-use Rattle.tree_laws.specs.SizeDepth.{depth-below}
-use Rattle.span.specs.Constants.{limit}
-use Rattle.span.specs.Numbers.{endOf}
-use Rattle.rows.specs.declared.row.Row.{Row}
-use Rattle.rows.specs.Layout.{parentPlace, lastPlace, depthPlace, nextFreePlace, rootPlace}
-use Rattle.rows.specs.Row.{Parts, fieldAt, numberAt}
-use Rattle.rows.specs.Table.{Table, tableOf, parent, depth, upper, path}
-use Rattle.rows.specs.Sound.{levelLimit}
-use Rattle.rows.specs.Capacity.{Fits}
-use Rattle.growth_laws.specs.Joined.{Joined}
-use Rattle.growth_laws.specs.JoinStep.{JoinStep}
-use Rattle.growth_laws.specs.Head.{Head}
-use Rattle.growth_laws.specs.Renumbered.{rows}
-use Rattle.growth_laws.specs.Trees.{OwnTrees, own-trees, stored, shape-of}
-use Rattle.join.specs.declared.attach.Leaf.{Leaf}
-use Rattle.join.specs.declared.plan.Plan.{Plan}
-use Rattle.join.specs.declared.plan.Planned.the-variants.{Grow}
-use Rattle.join.specs.Attach.{firstOf, firstAfter, nextAfter, parentAfter}
-use Rattle.join.specs.CheckWalk.{isReadable}
-use Rattle.join.specs.Copied.{copiesLinks}
-use Rattle.join.specs.Good.{isGood}
-use Rattle.join.specs.Plan.{upperUnder, upperFor, leafUnder, headOf, isFirst, isSeated, isWhole, plannedRow}
-use Rattle.join.specs.PlanLaws.{planned, on-top}
-use Rattle.join.specs.Store.{stored as storedAs, storedBy}
-use Rattle.growth.specs.declared.level.Level.the-variants.{At}
-use Rattle.renumber.specs.Count.{oneMore}
-use Rattle.growth.specs.Level.{levelOf as levelWithin}
-use Rattle.growth_exact.specs.SizeWalkExact.{more-one}
-use Rattle.renumbering.specs.Column.{put}
-use Rattle.growth_exact.specs.RenumberExact.{headAt}
-use Rattle.growth_exact.specs.CheckWalkExact.{Standing, check-passes}
-use Rattle.growth_exact.specs.Site.{Site, LeafOf}
-use Rattle.growth_exact.specs.JoinExact.{between, first-is, next-is, joined}
-use Rattle.growth_exact.specs.CopiedExact.{copies}
-use Rattle.growth_exact.specs.HeadExact.{headTop, head, is-head, top-found, head-planned, head-renumberable}
-use Rattle.growth_exact.specs.StoreExact.{head-seated, head-within, partsAfter, tableAfter, after-fits, after-step, after-given, root-rest}
+use Rattle.layer.specs.Layout.{fieldStride}
+use Rattle.layer.specs.Row.{fieldAt}
+use Rattle.layer.specs.Layer.{Layer}
+use Rattle.table.specs.Layout.{labelPlace, rootPlace}
+use Rattle.table.specs.Parts.{Parts, partsOf, levelAt, withLevel}
+use Rattle.table.specs.Capacity.{Fits}
+use Rattle.table.specs.Table.{Table, tableOf}
+use Rattle.renumber.specs.NumberWalk.{Written, written}
+use Rattle.join_laws.specs.JoinStep.{JoinStep}
+use Rattle.join_laws.specs.Renumbered.{rows}
+use Rattle.growth.specs.declared.plan.Plan.{Plan}
+use Rattle.growth.specs.declared.plan.Planned.the-variants.{Grow}
+use Rattle.growth.specs.PlannedRow.{plannedRow}
+use Rattle.growth.specs.PlannedRowLaws.{on-seat}
+use Rattle.growth.specs.Store.{Stored, stored, marked, withMarks, planStored}
+use Rattle.renumber_laws.specs.Column.{put}
+use Rattle.renumber_exact.specs.Lent.{Long}
+use Rattle.renumber_exact.specs.Columns.{Holds, put-at}
+use Rattle.join_exact.specs.Site.{Site}
+use Rattle.join_exact.specs.SeatExact.{h, seat, seat-found, joinedParts as joined, joinedLayer, site-stored, site-long, site-step, site-rest}
+use Rattle.growth_exact.specs.MarksExact.{marked-holds, marked-layer, label-new, label-old, root-after}
 
-or-true : (a b : Bool) → b ≡ true → (a || b) ≡ true
-or-true true b e = refl
-or-true false b e = e
+-- the parts of a table that are its layer's
+abbrev pub layerParts : Parts → Written
+layerParts p = written (p .fields) (p .numbers) (p .ancestors)
 
-module _ {c k : ℕ} {p : Parts} {t : Table} {z v : ℕ} {l : ℤ} (s : Site c p k t z v l) (f tree : ℕ) where
-  abbrev n : ℕ
-  n = t .count
+pub long-parts : {c : ℕ} {p : Parts} → Fits c p → Long c (layerParts p)
+long-parts f = record { most = omega (arith, f .most); fields = f .fields; numbers = f .numbers; ancestors = f .ancestors }
 
-  trees : OwnTrees t
-  trees = own-trees (s .was)
-
-  column : (g : Row → ℕ) (y : ℕ) → Old n z y → g (tableOf p n .row y) ≡ g (t .row y)
-  column g y o = ap g (s .row y o)
-
-  -- The leaf
-
-  abbrev pub u : ℕ
-  u = upperFor (p .fields) (p .numbers) (p .levels) k v
-
-  parent-is : fieldAt (p .fields) v parentPlace ≡ parent t v
-  parent-is = column (λ (r : Row). r .parent) v (s .over)
-
-  upper-first : parent t v ≡ none → u ≡ v
-  unfolding upperFor
-  upper-first e = rw (eq-eqb (fieldAt (p .fields) v parentPlace) none (parent-is ∙ e)) refl
-
-  upper-below : parent t v ≢ none → u ≡ pick (eqb (path t (parent t v)) v) (upper t v) v
-  unfolding upperFor upperUnder
-  upper-below d =
-      let o : Old n z (parent t v) = old-up (stored trees) (s .alone) v (s .over) d in
-      rw (parent-is, ne-eqb (parent t v) none d, s .good (parent t v) o, column (λ (r : Row). r .path) (parent t v) o, column (λ (r : Row). r .upper) v (s .over)) refl
-
-  pub leaf-of : LeafOf t v (fieldAt (p .fields) v lastPlace) u (oneMore (fieldAt (p .fields) v depthPlace))
-  leaf-of = record {
-    sibling = column (λ (r : Row). r .last) v (s .over);
-    upperApex = λ a. elim (ℕ-discrete (parent t v) none) [
-      | yes e ↦ upper-first e
-      | no d ↦ upper-below d ∙ ap (λ (b : Bool). pick b (upper t v) v) (ne-eqb (path t (parent t v)) v (a d))
-    ];
-    upperAlong = λ a. upper-below (a .some) ∙ ap (λ (b : Bool). pick b (upper t v) v) (eq-eqb (path t (parent t v)) v (a .link));
-    below = rw (column (λ (r : Row). r .depth) v (s .over)) (more-one (depth t v) (omega (arith, depth-below (shape-of (s .was)) v (s .over .inside), s .was .count)));
-  }
-
-  -- The table with it
-
-  abbrev w : ℕ
-  w = fieldAt (p .fields) v lastPlace
-
-  abbrev deep : ℕ
-  deep = oneMore (fieldAt (p .fields) v depthPlace)
-
-  abbrev m : Table
-  m = between s f tree w u deep leaf-of
-
-  abbrev pub h : ℕ
-  h = head s f tree w u deep leaf-of
-
-  abbrev top : ℕ
-  top = headTop s f tree w u deep leaf-of
-
-  in-m : Joined t m z v f l
-  in-m = joined s f tree w u deep leaf-of
-
-  pub head-is : Head m z h
-  head-is = is-head s f tree w u deep leaf-of
-
-  -- The links as they will stand
-
-  in-part : (y : ℕ) → y < n → y < c
-  in-part y i = omega (arith, s .room)
-
-  stands : Standing m (p .fields) (leafUnder (p .fields) z v)
-  unfolding firstAfter firstOf nextAfter parentAfter put
-  stands = record {
-    first = λ y i. elim (ℕ-discrete y z) [
-      | yes e ↦ rw (e, eq-eqb z z refl) (sym (in-m .planted .new .firstNone))
-      | no d ↦ rw (ne-eqb y z d) (sym (first-is s f tree w u deep leaf-of y (in-part y i) d))
-    ];
-    next = λ y i. elim (ℕ-discrete y z) [
-      | yes e ↦ rw (e, eq-eqb z z refl) (sym (in-m .planted .new .nextNone))
-      | no d ↦ rw (ne-eqb y z d) (sym (next-is s f tree w u deep leaf-of y (in-part y i) d))
-    ];
-    parent = λ y i. elim (ℕ-discrete y z) [
-      | yes e ↦ rw (e, eq-eqb z z refl) (sym (in-m .planted .new .parentIs))
-      | no d ↦
-          let o : Old n z y = record { inside = i; other = d } in
-          rw (ne-eqb y z d) (column (λ (r : Row). r .parent) y o ∙ sym (in-m .planted .old y o .sameParent))
-    ];
-  }
-
-  readable : (y : ℕ) → y < n → isReadable (p .fields) (p .numbers) (p .levels) k (leafUnder (p .fields) z v) y ≡ true
-  unfolding isReadable
-  readable y i = elim (ℕ-discrete y z) [
-    | yes e ↦ rw (eq-eqb y z e) refl
-    | no d ↦ or-true (eqb y z) (isGood (p .fields) (p .numbers) (p .levels) k y) (s .good y record { inside = i; other = d })
-  ]
-
-  -- The tests
-
-  head-in : h < n
-  head-in = head-renumberable (s .was) in-m head-is .inUse
-
-  first-or : (isFirst (p .fields) z h || not (eqb (upper m h) none)) ≡ true
-  unfolding isFirst
-  first-or = elim (ℕ-discrete (upper m h) none) [
-    | yes e ↦
-        let g = head-seated s f tree w u deep leaf-of h head-is e in
-        let o : Old n z h = record { inside = head-in; other = g .0 } in
-        rw (ne-eqb h z (g .0), eq-eqb (fieldAt (p .fields) h parentPlace) none (column (λ (r : Row). r .parent) h o ∙ g .1)) refl
-    | no d ↦ or-true (isFirst (p .fields) z h) (not (eqb (upper m h) none)) (rw (ne-eqb (upper m h) none d) refl)
-  ]
-
-  seated : isSeated (p .fields) (p .numbers) z (headAt m h) ≡ true
-  unfolding isSeated
-  seated = rw (first-or, le-leb (endOf (numberAt (p .numbers) (upper m h) nextFreePlace) (rows m h)) limit (head-within s f tree w u deep leaf-of h head-is)) refl
-
-  whole-walk : isWhole (p .fields) (p .numbers) (p .levels) k (leafUnder (p .fields) z v) (headAt m h) ≡ true
-  unfolding isWhole
-  whole-walk = or-true (eqb h z) _ (check-passes (head-renumberable (s .was) in-m head-is)
-      (p .fields) (p .numbers) (p .levels) k (leafUnder (p .fields) z v) stands readable)
-
-  links : copiesLinks (p .ancestors) k (headAt m h .upper) ≡ true
-  links = copies s f tree w u deep leaf-of h head-in
-
-  -- the plan
+module _ {c k : ℕ} {p : Parts} {t : Layer} {z v : ℕ} (fit : Fits c p) (s : Site c (layerParts p) k t z v) (level : ℤ) (label tree : ℕ) where
   abbrev pub plan : Plan
-  plan = record {
-    leaf = leafUnder (p .fields) z v;
-    upper = u;
-    depth = deep;
-    level = l;
-    label = f;
-    head = headAt m h;
-    tree = tree;
-  }
+  plan = record { seat = seat s; level = level; label = label; tree = tree }
 
-  pub row-planned : plannedRow (p .fields) (p .numbers) (p .levels) (p .ancestors) k z v l f tree ≡ Grow plan
-  row-planned =
-      let g : List ℕ = p .fields in
-      let e : headOf g top z u ≡ headAt m h = head-planned s f tree w u deep leaf-of in
-      sym (on-top g (p .numbers) (p .levels) (p .ancestors) k z v l f tree top (s .good v (s .over)) (sym (top-found s f tree w u deep leaf-of)))
-      ∙ sym (planned g (p .numbers) (p .levels) (p .ancestors) k z v u top deep l f tree (rw e seated) (rw e whole-walk) (rw e links)) ∙ rw e refl
-
-  pub level-planned : levelWithin l ≡ At l
-  unfolding levelWithin
-  level-planned = rw (le-leb (natAbs l) levelLimit (s .level)) refl
+  pub row-planned : plannedRow (p .fields) (p .numbers) (p .ancestors) k z v level label tree ≡ Grow plan
+  row-planned = sym (on-seat (p .fields) (p .numbers) (p .ancestors) k z v level label tree (seat s) (sym (seat-found s)))
 
   -- What is stored by it
 
   abbrev pub joinedParts : Parts
-  joinedParts = partsAfter s f tree w u deep leaf-of h head-is
+  joinedParts = partsOf (marked (joined s .fields) z label tree) (joined s .numbers) (withLevel (p .levels) z level) (joined s .ancestors)
 
   abbrev pub joinedTable : Table
-  joinedTable = tableAfter s f tree w u deep leaf-of h head-is
+  joinedTable = tableOf joinedParts (t .count)
 
-  pub site-stored : storedBy p k plan ≡ storedAs joinedParts (rows joinedTable h)
-  unfolding storedBy
-  site-stored = ap (λ (a : ℕ). storedAs joinedParts a) (after-given s f tree w u deep leaf-of h head-is)
+  holds : Holds fieldStride c (joined s .fields)
+  holds = record { most = fit .most; long = site-long s .fields }
 
-  pub site-fits : Fits c joinedParts
-  site-fits = after-fits s f tree w u deep leaf-of h head-is
+  pub layer-same : joinedTable .layer ≡ joinedLayer s
+  layer-same = marked-layer holds z label tree (joined s .numbers) (joined s .ancestors) (t .count)
 
-  pub site-step : JoinStep t joinedTable z v f l h
-  site-step = after-step s f tree w u deep leaf-of h head-is
+  pub plan-stored : planStored p k plan ≡ stored joinedParts (rows (joinedTable .layer) (h s))
+  unfolding planStored
+  plan-stored = ap (withMarks (p .levels) plan) (site-stored s) ∙ ap (λ (x : Layer). stored joinedParts (rows x (h s))) (sym layer-same)
 
-  pub site-roots : (tree ≡ none) ⊎ (tree < c) → (y : ℕ) → y < c → y ≢ z → joinedTable .root y ≡ put (λ x. fieldAt (p .fields) x rootPlace) tree z y
-  site-roots = root-rest s f tree w u deep leaf-of h head-is
+  pub plan-fits : Fits c joinedParts
+  plan-fits = record {
+    least = fit .least;
+    most = fit .most;
+    levels = length-set (p .levels) z level ∙ fit .levels;
+    fields = marked-holds holds z label tree .long;
+    numbers = site-long s .numbers;
+    ancestors = site-long s .ancestors;
+  }
+
+  pub plan-step : JoinStep t (joinedTable .layer) z v (h s)
+  plan-step = rw layer-same (site-step s)
+
+  -- The marks
+
+  row-in : z < c
+  row-in = omega (arith, s .alone .inside, s .room)
+
+  pub mark-label : joinedTable .label z ≡ label
+  mark-label = label-new holds z label tree row-in
+
+  pub mark-level : joinedTable .level z ≡ level
+  mark-level = getD-set-same (p .levels) z level (pos 0) (omega (arith, fit .levels, row-in))
+
+  pub kept-label : (y : ℕ) → y ≢ z → joinedTable .label y ≡ fieldAt (p .fields) y labelPlace
+  kept-label y d = label-old holds z label tree row-in y d ∙ site-rest s y labelPlace (omega arith) (omega arith)
+
+  pub kept-level : (y : ℕ) → y ≢ z → joinedTable .level y ≡ levelAt (p .levels) y
+  kept-level y d = getD-set-other (p .levels) z y level (pos 0) d
+
+  pub plan-roots : (tree ≡ none) ⊎ (tree < c) → (y : ℕ) → y < c → y ≢ z → joinedTable .root y ≡ put (λ x. fieldAt (p .fields) x rootPlace) tree z y
+  plan-roots i y b d = root-after holds z label tree row-in i y b d
+      ∙ put-at (λ x. fieldAt (joined s .fields) x rootPlace) (λ x. fieldAt (p .fields) x rootPlace) tree z y (site-rest s y rootPlace (omega arith) (omega arith))

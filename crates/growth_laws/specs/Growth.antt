@@ -5,9 +5,10 @@ use lib.IntN.{ℤ, pos, _+ℤ_, _-ℤ_}
 use lib.Dec.{eqb}
 use Rattle.laws.specs.Test.{pick}
 use Rattle.tree_laws.specs.Ancestor.{none}
-use Rattle.rows.specs.Table.{Table, level}
-use Rattle.rows.specs.PlainTree.{first, root as rootIn}
-use Rattle.rows.specs.StoredTree.{labelLimit}
+use Rattle.layer.specs.StoredTree.{first}
+use Rattle.table.specs.Table.{Table}
+use Rattle.table.specs.PlainTree.{root as rootIn}
+use Rattle.table.specs.Rules.{labelLimit}
 
 -- a leaf with a parent and a label, or a new root (the paper's top) over a root
 pub data Growth : Type 0 where
@@ -16,8 +17,8 @@ pub data Growth : Type 0 where
 
 -- what a growth must name to be served: a row in use and a label from 1 to 9,999, or the root of a plain tree
 pub data Named (t : Table) : Growth → Type 0 where
-  named-leaf : {v f : ℕ} → v < t .count → 1 ≤ f → f ≤ labelLimit → Named t (leaf v f)
-  named-root : {r : ℕ} → r < t .count → rootIn t r ≡ r → Named t (root r)
+  named-leaf : {v f : ℕ} → v < t .layer .count → 1 ≤ f → f ≤ labelLimit → Named t (leaf v f)
+  named-root : {r : ℕ} → r < t .layer .count → rootIn t r ≡ r → Named t (root r)
 
 -- the row that the stored tree puts the new one under: a new root is stored as a leaf under the old one
 abbrev pub parentOf : Growth → ℕ
@@ -30,14 +31,14 @@ labelOf (root r) = 0
 
 -- one below its parent for a leaf, one above the old root for a new root
 abbrev pub levelOf : Table → Growth → ℤ
-levelOf t (leaf v f) = level t v +ℤ pos 1
-levelOf t (root r) = level t r -ℤ pos 1
+levelOf t (leaf v f) = t .level v +ℤ pos 1
+levelOf t (root r) = t .level r -ℤ pos 1
 
 -- the row whose root record changes, or none
 abbrev pub treeOf : Table → Growth → ℕ
 treeOf t (leaf v f) = none
-treeOf t (root r) = first t r
+treeOf t (root r) = first (t .layer) r
 
 -- the root that row x records after the growth
 abbrev pub rootAfter : Table → Growth → ℕ → ℕ
-rootAfter t g x = pick (eqb x (treeOf t g)) (t .count) (t .root x)
+rootAfter t g x = pick (eqb x (treeOf t g)) (t .layer .count) (t .root x)

@@ -5,8 +5,8 @@ use Prim.Native.Nat.{ℕ, suc, _<_}
 use lib.Dec.{eqb}
 use Rattle.laws.specs.Test.{pick}
 use Rattle.tree_laws.specs.Ancestor.{none}
-use Rattle.rows.specs.Table.{Table, label}
-use Rattle.rows.specs.PlainTree.{plain}
+use Rattle.table.specs.Table.{Table}
+use Rattle.table.specs.PlainTree.{plain}
 use Rattle.growth_laws.specs.Growth.{Growth, leaf, root, labelOf}
 
 -- the plain parent of the new row
@@ -17,20 +17,20 @@ plainNew (root r) = none
 -- the plain parent of an old row after the growth: a new root becomes the parent of the old one
 abbrev pub plainOld : Table → Growth → ℕ → ℕ
 plainOld t (leaf v f) x = plain t x
-plainOld t (root r) x = pick (eqb x r) (t .count) (plain t x)
+plainOld t (root r) x = pick (eqb x r) (t .layer .count) (plain t x)
 
 -- the plain trees and the labels of d are those of t after one step of the plain list
 pub record PlainStep (t d : Table) (g : Growth) : Type 0 where
-  pub count : d .count ≡ suc (t .count)
-  pub parentOld : (x : ℕ) → x < t .count → plain d x ≡ plainOld t g x
-  pub parentNew : plain d (t .count) ≡ plainNew g
-  pub labelOld : (x : ℕ) → x < t .count → label d x ≡ label t x
-  pub labelNew : label d (t .count) ≡ labelOf g
+  pub count : d .layer .count ≡ suc (t .layer .count)
+  pub parentOld : (x : ℕ) → x < t .layer .count → plain d x ≡ plainOld t g x
+  pub parentNew : plain d (t .layer .count) ≡ plainNew g
+  pub labelOld : (x : ℕ) → x < t .layer .count → d .label x ≡ t .label x
+  pub labelNew : d .label (t .layer .count) ≡ labelOf g
 
 -- and after a first node
 pub record PlainStart (t d : Table) : Type 0 where
-  pub count : d .count ≡ suc (t .count)
-  pub parentOld : (x : ℕ) → x < t .count → plain d x ≡ plain t x
-  pub parentNew : plain d (t .count) ≡ none
-  pub labelOld : (x : ℕ) → x < t .count → label d x ≡ label t x
-  pub labelNew : label d (t .count) ≡ 0
+  pub count : d .layer .count ≡ suc (t .layer .count)
+  pub parentOld : (x : ℕ) → x < t .layer .count → plain d x ≡ plain t x
+  pub parentNew : plain d (t .layer .count) ≡ none
+  pub labelOld : (x : ℕ) → x < t .layer .count → d .label x ≡ t .label x
+  pub labelNew : d .label (t .layer .count) ≡ 0

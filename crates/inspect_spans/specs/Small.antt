@@ -13,37 +13,37 @@ use Rattle.laws.specs.Test.{Says, says-leb, says-eqb, says-true, says-false, sa
 use Rattle.tree_laws.specs.Ancestor.{none}
 use Rattle.span.specs.Constants.{limit}
 use Rattle.span.specs.Numbers.{withinLimit}
-use Rattle.rows.specs.Table.{Table, upper, setSize, start}
-use Rattle.rows.specs.Spans.{end}
+use Rattle.layer.specs.Layer.{Layer, upper, setSize, start}
+use Rattle.layer.specs.Spans.{end}
 use Rattle.inspect_laws.specs.Apart.{isApartNext}
 use Rattle.inspect_laws.specs.Order.{Arranged}
-use Rattle.inspect_tree.specs.Columns.{spanTable, uppers}
+use Rattle.inspect_tree.specs.Columns.{spanLayer, uppers}
 
 -- the span of row x ends within the limit
-abbrev pub isSmall : Table → ℕ → Bool
+abbrev pub isSmall : Layer → ℕ → Bool
 isSmall t x = withinLimit (start t x) (setSize t x)
 
 -- and so does that of its compressed parent
-pub record SmallRow (t : Table) (x : ℕ) : Type 0 where
+pub record SmallRow (t : Layer) (x : ℕ) : Type 0 where
   pub own : end t x ≤ limit
   pub above : upper t x ≢ none → end t (upper t x) ≤ limit
 
 pub record Small (f m : List ℕ) (n : ℕ) : Type 0 where
-  pub each : (x : ℕ) → x < n → SmallRow (spanTable f m 0) x
+  pub each : (x : ℕ) → x < n → SmallRow (spanLayer f m 0) x
 
 -- Laws
 
-pub says-small : (t : Table) (n : ℕ) → Says ((x : ℕ) → x < n → end t x ≤ limit) (allTo (isSmall t) n)
+pub says-small : (t : Layer) (n : ℕ) → Says ((x : ℕ) → x < n → end t x ≤ limit) (allTo (isSmall t) n)
 says-small t n = says-all (isSmall t) n (λ x l. says-leb (end t x) limit)
 
 -- where compressed parents are rows below n, the test of all rows says it of each row and its compressed parent
-pub small-of : (f m : List ℕ) (n : ℕ) → allTo (isSmall (spanTable f m 0)) n ≡ true → ((x : ℕ) → x < n → uppers f x ≢ none → uppers f x < n) → Small f m n
+pub small-of : (f m : List ℕ) (n : ℕ) → allTo (isSmall (spanLayer f m 0)) n ≡ true → ((x : ℕ) → x < n → uppers f x ≢ none → uppers f x < n) → Small f m n
 small-of f m n e inside =
-    let s = says-get (says-small (spanTable f m 0) n) e in
+    let s = says-get (says-small (spanLayer f m 0) n) e in
     record { each = λ x l. record { own = s x l; above = λ h. s (uppers f x) (inside x l h) } }
 
 -- siblings are apart, next to each other in the order, where the first ends by the start of the second
-pub apart-end : (t : Table) (v w : ℕ) {u u′ : ℕ} → u ≡ upper t v → u′ ≡ upper t w → u ≢ none → u ≡ u′ → leb (end t v) (start t w) ≡ isApartNext t v w
+pub apart-end : (t : Layer) (v w : ℕ) {u u′ : ℕ} → u ≡ upper t v → u′ ≡ upper t w → u ≢ none → u ≡ u′ → leb (end t v) (start t w) ≡ isApartNext t v w
 apart-end t v w e f d s =
     rw (says-false (says-eqb (upper t v) none) (λ z. d (e ∙ z)), says-true (says-eqb (upper t v) (upper t w)) (sym e ∙ s ∙ f))
 

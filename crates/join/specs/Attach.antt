@@ -1,23 +1,12 @@
--- A new leaf in the table (01: child links in order of arrival; "A new leaf is a path by itself with σ = 0", s = 1), and the links as they will stand.
+-- A new leaf in the layer (01: child links in order of arrival; "A new leaf is a path by itself with σ = 0", s = 1), and the links as they will stand.
 use mathlib.Core.List.{List}
 use Prim.Native.Nat.{ℕ}
 use lib.Dec.{eqb}
 use Rattle.laws.specs.Test.{pick}
 use Rattle.tree_laws.specs.Ancestor.{none}
-use Rattle.rows.specs.Layout.{
-  parentPlace,
-  firstPlace,
-  lastPlace,
-  nextPlace,
-  upperPlace,
-  pathPlace,
-  sizePlace,
-  setSizePlace,
-  depthPlace,
-  labelPlace,
-}
-use Rattle.rows.specs.Row.{fieldAt}
-use Rattle.rows.specs.Write.{withField}
+use Rattle.layer.specs.Layout.{parentPlace, firstPlace, lastPlace, nextPlace, upperPlace, pathPlace, sizePlace, setSizePlace, depthPlace}
+use Rattle.layer.specs.Row.{fieldAt}
+use Rattle.layer.specs.Write.{withField}
 use Rattle.join.specs.declared.attach.Leaf.{Leaf}
 use Rattle.join.specs.Chain.{raised}
 
@@ -48,9 +37,8 @@ newLinks f x parent upper =
     x pathPlace none
 
 -- the numbers of the new row
-unfoldable pub newValues : List ℕ → ℕ → ℕ → ℕ → List ℕ
-newValues f x depth label =
-    withField (withField (withField (withField f x sizePlace 1) x setSizePlace 0) x depthPlace depth) x labelPlace label
+unfoldable pub newValues : List ℕ → ℕ → ℕ → List ℕ
+newValues f x depth = withField (withField (withField f x sizePlace 1) x setSizePlace 0) x depthPlace depth
 
 -- the links to the new row from its parent and its last sibling
 unfoldable pub linked : List ℕ → Leaf → List ℕ
@@ -60,6 +48,6 @@ linked f leaf =
     (leaf .parent) lastPlace (leaf .row)
 
 -- the row, linked, with one more in each size of its chain, of at most n rows
-unfoldable pub attached : ℕ → List ℕ → Leaf → ℕ → ℕ → ℕ → List ℕ
-attached n f leaf upper depth label =
-    raised n (linked (newValues (newLinks f (leaf .row) (leaf .parent) upper) (leaf .row) depth label) leaf) upper
+unfoldable pub attached : ℕ → List ℕ → Leaf → ℕ → ℕ → List ℕ
+attached n f leaf upper depth =
+    raised n (linked (newValues (newLinks f (leaf .row) (leaf .parent) upper) (leaf .row) depth) leaf) upper

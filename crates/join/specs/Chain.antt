@@ -3,28 +3,27 @@ use mathlib.Core.Bool.{Bool}
 use mathlib.Core.List.{List}
 use Prim.Native.Nat.{ℕ, zero, suc}
 use lib.Dec.{eqb}
-use lib.IntN.{ℤ}
 use Rattle.laws.specs.Test.{pick}
 use Rattle.tree_laws.specs.Ancestor.{none}
 use Rattle.span.specs.Numbers.{outgrown}
-use Rattle.rows.specs.Layout.{upperPlace, sizePlace, setSizePlace}
-use Rattle.rows.specs.Row.{fieldAt}
-use Rattle.rows.specs.Write.{withField}
+use Rattle.layer.specs.Layout.{upperPlace, sizePlace, setSizePlace}
+use Rattle.layer.specs.Row.{fieldAt, rowOf}
+use Rattle.layer.specs.Write.{withField}
 use Rattle.join.specs.declared.chain.Top.{Top}
 use Rattle.join.specs.declared.chain.Top.the-variants.{At, Corrupt}
 use Rattle.renumber.specs.Count.{oneMore}
-use Rattle.join.specs.Good.{isGood}
+use Rattle.layer.specs.Checked.{isRow}
 
 -- row u, with one row more below it, has outgrown its set size
 unfoldable pub outgrownAt : List ℕ → ℕ → Bool
 outgrownAt f u = outgrown (oneMore (fieldAt f u sizePlace)) (fieldAt f u setSizePlace)
 
 -- the highest row from u up that has outgrown its set size, or `top`, found below u; corrupt where a row read is, or where fuel rows do not end the chain
-unfoldable pub topFrom : ℕ → List ℕ → List ℕ → List ℤ → ℕ → ℕ → ℕ → Top
-topFrom zero f m l n u top = pick (eqb u none) (At top) Corrupt
-topFrom (suc fuel) f m l n u top =
+unfoldable pub topFrom : ℕ → List ℕ → List ℕ → ℕ → ℕ → ℕ → Top
+topFrom zero f m n u top = pick (eqb u none) (At top) Corrupt
+topFrom (suc fuel) f m n u top =
     pick (eqb u none) (At top)
-    (pick (isGood f m l n u) (topFrom fuel f m l n (fieldAt f u upperPlace) (pick (outgrownAt f u) u top)) Corrupt)
+    (pick (isRow n (rowOf f m) u) (topFrom fuel f m n (fieldAt f u upperPlace) (pick (outgrownAt f u) u top)) Corrupt)
 
 -- by what the chain holds
 abbrev pub onTop : {A : Type 0} → Top → (ℕ → A) → A → A

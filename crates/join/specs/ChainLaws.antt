@@ -4,33 +4,32 @@ use mathlib.Core.Bool.{true, false}
 use mathlib.Core.Logic.{_≢_}
 use mathlib.Core.List.{List}
 use Prim.Native.Nat.{ℕ, zero, suc}
-use lib.IntN.{ℤ}
 use borrow.Author.Tests.{eq-eqb, ne-eqb}
 use Rattle.laws.specs.Test.{pick}
 use Rattle.tree_laws.specs.Ancestor.{none}
-use Rattle.rows.specs.Layout.{upperPlace}
-use Rattle.rows.specs.Row.{fieldAt}
+use Rattle.layer.specs.Layout.{upperPlace}
+use Rattle.layer.specs.Row.{fieldAt, rowOf}
 use Rattle.join.specs.declared.chain.Top.the-variants.{At, Corrupt}
-use Rattle.join.specs.Good.{isGood}
+use Rattle.layer.specs.Checked.{isRow}
 use Rattle.join.specs.Chain.{outgrownAt, topFrom, raisedAt, raised}
 
-module _ (f m : List ℕ) (l : List ℤ) (n u top : ℕ) where
-  pub top-stop : (fuel : ℕ) → u ≡ none → topFrom fuel f m l n u top ≡ At top
+module _ (f m : List ℕ) (n u top : ℕ) where
+  pub top-stop : (fuel : ℕ) → u ≡ none → topFrom fuel f m n u top ≡ At top
   unfolding topFrom
   top-stop zero e = rw (eq-eqb u none e)
   top-stop (suc fuel) e = rw (eq-eqb u none e)
 
-  pub top-long : (fuel : ℕ) → fuel ≡ 0 → u ≢ none → topFrom fuel f m l n u top ≡ Corrupt
+  pub top-long : (fuel : ℕ) → fuel ≡ 0 → u ≢ none → topFrom fuel f m n u top ≡ Corrupt
   unfolding topFrom
   top-long fuel z d = rw (z, ne-eqb u none d)
 
-  pub top-corrupt : (fuel : ℕ) → u ≢ none → isGood f m l n u ≡ false → topFrom fuel f m l n u top ≡ Corrupt
+  pub top-corrupt : (fuel : ℕ) → u ≢ none → isRow n (rowOf f m) u ≡ false → topFrom fuel f m n u top ≡ Corrupt
   unfolding topFrom
   top-corrupt zero d e = rw (ne-eqb u none d)
   top-corrupt (suc fuel) d e = rw (ne-eqb u none d, e)
 
-  pub top-on : (fuel k : ℕ) → fuel ≡ suc k → u ≢ none → isGood f m l n u ≡ true
-      → topFrom fuel f m l n u top ≡ topFrom k f m l n (fieldAt f u upperPlace) (pick (outgrownAt f u) u top)
+  pub top-on : (fuel k : ℕ) → fuel ≡ suc k → u ≢ none → isRow n (rowOf f m) u ≡ true
+      → topFrom fuel f m n u top ≡ topFrom k f m n (fieldAt f u upperPlace) (pick (outgrownAt f u) u top)
   unfolding topFrom
   top-on fuel k s d e = rw (s, ne-eqb u none d, e)
 

@@ -3,7 +3,7 @@
 use mathlib.Core.Bool.{Bool, true, _&&_}
 use mathlib.Core.List.{List, [], _∷_}
 use Prim.Native.Nat.{ℕ}
-use Rattle.rows.specs.Sound.{isLink}
+use Rattle.layer.specs.Sound.{isLink}
 use Rattle.renumber.specs.Entries.{aboveOf}
 
 -- every entry of a list is none or below the count n

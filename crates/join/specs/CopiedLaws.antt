@@ -6,8 +6,8 @@ use Prim.Native.Nat.{ℕ, zero, suc, _+_, _*_, _≤_, _<_}
 use native.Mathlib.Omega.{arith}
 use lib.ListN.{length, getD, take, drop, replicate}
 use Rattle.tree_laws.specs.Ancestor.{none}
-use Rattle.rows.specs.Layout.{entryStride}
-use Rattle.rows.specs.Sound.{isLink}
+use Rattle.layer.specs.Layout.{entryStride}
+use Rattle.layer.specs.Sound.{isLink}
 use Rattle.renumber.specs.EntriesLaws.{above-none, above-row}
 use Rattle.join.specs.Copied.{areLinks, copiesLinks}
 

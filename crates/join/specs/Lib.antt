@@ -1,4 +1,3 @@
-pub mod Good
 pub mod Chain
 pub mod ChainLaws
 pub mod Attach
@@ -7,7 +6,6 @@ pub mod CheckWalk
 pub mod CheckWalkLaws
 pub mod Copied
 pub mod CopiedLaws
-pub mod Plan
-pub mod PlanLaws
+pub mod Seat
+pub mod SeatLaws
 pub mod Store
-pub mod StoreLaws

@@ -2,8 +2,8 @@
 use mathlib.Core.List.{List}
 use Prim.Native.Nat.{ℕ}
 use Rattle.tree_laws.specs.Ancestor.{none}
-use Rattle.rows.specs.Layout.{sizePlace, setSizePlace, depthPlace, startPlace, nextFreePlace}
-use Rattle.rows.specs.Write.{withField, withNumber}
+use Rattle.layer.specs.Layout.{sizePlace, setSizePlace, depthPlace, startPlace, nextFreePlace}
+use Rattle.layer.specs.Write.{withField, withNumber}
 use Rattle.renumber.specs.Entries.{withEntries}
 use Rattle.join.specs.Attach.{newLinks}
 

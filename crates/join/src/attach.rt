@@ -1,18 +1,17 @@
-// A leaf: its links as they will stand, and its row in the table.
+// A leaf: its links as they will stand, and its row in the layer.
 use crate::chain::raise;
-use rows::layout::DEPTH;
-use rows::layout::FIRST;
-use rows::layout::LABEL;
-use rows::layout::LAST;
-use rows::layout::NEXT;
-use rows::layout::NONE;
-use rows::layout::PARENT;
-use rows::layout::PATH;
-use rows::layout::SET_SIZE;
-use rows::layout::SIZE;
-use rows::layout::UPPER;
-use rows::row::field;
-use rows::write::put_field;
+use layer::layout::DEPTH;
+use layer::layout::FIRST;
+use layer::layout::LAST;
+use layer::layout::NEXT;
+use layer::layout::NONE;
+use layer::layout::PARENT;
+use layer::layout::PATH;
+use layer::layout::SET_SIZE;
+use layer::layout::SIZE;
+use layer::layout::UPPER;
+use layer::row::field;
+use layer::write::put_field;
 ghost use mathlib.Core.Path.{_≡_};
 ghost use Rattle.join.specs.Attach.{firstAfter, nextAfter, parentAfter, newLinks, newValues, firstOf, linked, attached};
 
@@ -82,13 +81,12 @@ pub fn put_links(fields: &mut [u16], x: u16, parent: u16, upper: u16)
 }
 
 // The numbers of the new row.
-fn put_values(fields: &mut [u16], x: u16, depth: u16, label: u16)
-    ensures { λ _. ⌜ now (fields .exit) ≡ newValues (now (fields .entry)) x depth label ⌝ }
+fn put_values(fields: &mut [u16], x: u16, depth: u16)
+    ensures { λ _. ⌜ now (fields .exit) ≡ newValues (now (fields .entry)) x depth ⌝ }
 {
     put_field(fields, x, SIZE, 1);
     put_field(fields, x, SET_SIZE, 0);
     put_field(fields, x, DEPTH, depth);
-    put_field(fields, x, LABEL, label);
 }
 
 // The links to the new row from its parent and its last sibling.
@@ -102,11 +100,11 @@ fn link(fields: &mut [u16], leaf: Leaf)
 }
 
 // The row, linked, with one more in each size of its chain.
-pub fn attach(fields: &mut [u16], count: u16, leaf: Leaf, upper: u16, depth: u16, label: u16)
-    ensures { λ _. ⌜ now (fields .exit) ≡ attached count (now (fields .entry)) leaf upper depth label ⌝ }
+pub fn attach(fields: &mut [u16], count: u16, leaf: Leaf, upper: u16, depth: u16)
+    ensures { λ _. ⌜ now (fields .exit) ≡ attached count (now (fields .entry)) leaf upper depth ⌝ }
 {
     put_links(fields, leaf.row, leaf.parent, upper);
-    put_values(fields, leaf.row, depth, label);
+    put_values(fields, leaf.row, depth);
     link(fields, leaf);
     raise(fields, count, upper);
 }

@@ -1,16 +1,16 @@
 // The chain of a new leaf: its upper rows, from the lowest up.
-use crate::good::is_good;
+use layer::layout::NONE;
+use layer::layout::SET_SIZE;
+use layer::layout::SIZE;
+use layer::layout::UPPER;
+use layer::row::field;
+use layer::write::put_field;
 use renumber::count::one_more;
-use rows::layout::NONE;
-use rows::layout::SET_SIZE;
-use rows::layout::SIZE;
-use rows::layout::UPPER;
-use rows::row::field;
-use rows::write::put_field;
+use row_check::is_row;
 use span::Span;
 ghost use mathlib.Core.Path.{_≡_};
 ghost use Rattle.laws.specs.Test.{pick};
-ghost use Rattle.join.specs.Good.{Held};
+ghost use Rattle.layer.specs.Checked.{Holds};
 ghost use Rattle.join.specs.Chain.{topFrom, outgrownAt, raisedAt, raised};
 
 // What the chain holds: the highest row that one more row makes it outgrow its set size, or none; or something out of range.
@@ -37,9 +37,9 @@ fn higher(fields: &[u16], u: u16, top: u16) -> u16
 }
 
 // The highest row of the chain from u up that has outgrown its set size.
-pub fn top_of(fields: &[u16], numbers: &[u64], levels: &[i32], count: u16, first: u16) -> Top
-    requires { ⌜ Held count (now fields) (now numbers) (now levels) ⌝ }
-    ensures { λ r. ⌜ r ≡ topFrom count (now (fields .entry)) (now (numbers .entry)) (now (levels .entry)) count first 65535 ⌝ }
+pub fn top_of(fields: &[u16], numbers: &[u64], count: u16, first: u16) -> Top
+    requires { ⌜ Holds count (now fields) (now numbers) ⌝ }
+    ensures { λ r. ⌜ r ≡ topFrom count (now (fields .entry)) (now (numbers .entry)) count first 65535 ⌝ }
 {
     let mut u = first;
     let mut top = NONE;
@@ -48,7 +48,7 @@ pub fn top_of(fields: &[u16], numbers: &[u64], levels: &[i32], count: u16, first
         if u == NONE {
             return Top::At(top);
         }
-        if !is_good(fields, numbers, levels, count, u) {
+        if !is_row(fields, numbers, count, u) {
             return Top::Corrupt;
         }
         top = higher(fields, u, top);

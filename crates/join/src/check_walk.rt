@@ -3,11 +3,11 @@ use crate::attach::Leaf;
 use crate::attach::first_after;
 use crate::attach::next_after;
 use crate::attach::parent_after;
-use crate::good::is_good;
-use rows::layout::NONE;
+use layer::layout::NONE;
+use row_check::is_row;
 ghost use mathlib.Core.Path.{_≡_};
 ghost use mathlib.Core.Bool.{true};
-ghost use Rattle.join.specs.Good.{Held};
+ghost use Rattle.layer.specs.Checked.{Holds};
 ghost use Rattle.join.specs.CheckWalk.{isReadable, entered, checkTurn, checkWalk};
 
 // Where the walk stands, and whether all rows that it met are as they should be.
@@ -18,35 +18,20 @@ pub struct Checking {
 }
 
 // Row c is the leaf, or holds nothing out of range.
-fn is_readable(
-    fields: &[u16],
-    numbers: &[u64],
-    levels: &[i32],
-    count: u16,
-    leaf: Leaf,
-    c: u16,
-) -> bool
-    requires { ⌜ Held count (now fields) (now numbers) (now levels) ⌝ }
-    ensures { λ r. ⌜ r ≡ isReadable (now (fields .entry)) (now (numbers .entry)) (now (levels .entry)) count leaf c ⌝ }
+fn is_readable(fields: &[u16], numbers: &[u64], count: u16, leaf: Leaf, c: u16) -> bool
+    requires { ⌜ Holds count (now fields) (now numbers) ⌝ }
+    ensures { λ r. ⌜ r ≡ isReadable (now (fields .entry)) (now (numbers .entry)) count leaf c ⌝ }
 {
     if c == leaf.row {
         return true;
     }
-    is_good(fields, numbers, levels, count, c)
+    is_row(fields, numbers, count, c)
 }
 
 // Down into c, which must be a child of v, or up out of v where c is none.
-fn enter(
-    fields: &[u16],
-    numbers: &[u64],
-    levels: &[i32],
-    count: u16,
-    leaf: Leaf,
-    v: u16,
-    c: u16,
-) -> Checking
-    requires { ⌜ Held count (now fields) (now numbers) (now levels) ⌝ }
-    ensures { λ r. ⌜ r ≡ entered (now (fields .entry)) (now (numbers .entry)) (now (levels .entry)) count leaf v c ⌝ }
+fn enter(fields: &[u16], numbers: &[u64], count: u16, leaf: Leaf, v: u16, c: u16) -> Checking
+    requires { ⌜ Holds count (now fields) (now numbers) ⌝ }
+    ensures { λ r. ⌜ r ≡ entered (now (fields .entry)) (now (numbers .entry)) count leaf v c ⌝ }
 {
     if c == NONE {
         return Checking {
@@ -55,7 +40,7 @@ fn enter(
             ok: true,
         };
     }
-    let readable = is_readable(fields, numbers, levels, count, leaf, c);
+    let readable = is_readable(fields, numbers, count, leaf, c);
     let child = parent_after(fields, leaf, c) == v;
     Checking {
         row: c,
@@ -68,14 +53,13 @@ fn enter(
 fn check_turn(
     fields: &[u16],
     numbers: &[u64],
-    levels: &[i32],
     count: u16,
     leaf: Leaf,
     head: u16,
     t: Checking,
 ) -> Checking
-    requires { ⌜ Held count (now fields) (now numbers) (now levels) ⌝ }
-    ensures { λ r. ⌜ r ≡ checkTurn (now (fields .entry)) (now (numbers .entry)) (now (levels .entry)) count leaf head t ⌝ }
+    requires { ⌜ Holds count (now fields) (now numbers) ⌝ }
+    ensures { λ r. ⌜ r ≡ checkTurn (now (fields .entry)) (now (numbers .entry)) count leaf head t ⌝ }
 {
     if !t.ok {
         return t;
@@ -84,7 +68,6 @@ fn check_turn(
         return enter(
             fields,
             numbers,
-            levels,
             count,
             leaf,
             t.row,
@@ -101,7 +84,6 @@ fn check_turn(
     enter(
         fields,
         numbers,
-        levels,
         count,
         leaf,
         parent_after(fields, leaf, t.row),
@@ -113,14 +95,13 @@ fn check_turn(
 pub fn check_walk(
     fields: &[u16],
     numbers: &[u64],
-    levels: &[i32],
     count: u16,
     leaf: Leaf,
     head: u16,
     steps: u32,
 ) -> bool
-    requires { ⌜ Held count (now fields) (now numbers) (now levels) ⌝ }
-    ensures { λ r. ⌜ r ≡ checkWalk steps (now (fields .entry)) (now (numbers .entry)) (now (levels .entry)) count leaf head (record { row = head; down = true; ok = true }) ⌝ }
+    requires { ⌜ Holds count (now fields) (now numbers) ⌝ }
+    ensures { λ r. ⌜ r ≡ checkWalk steps (now (fields .entry)) (now (numbers .entry)) count leaf head (record { row = head; down = true; ok = true }) ⌝ }
 {
     let mut t = Checking {
         row: head,
@@ -129,7 +110,7 @@ pub fn check_walk(
     };
     let mut k: u32 = 0;
     while k < steps {
-        t = check_turn(fields, numbers, levels, count, leaf, head, t);
+        t = check_turn(fields, numbers, count, leaf, head, t);
         k += 1;
     }
     t.ok & !t.down & (t.row == head)

@@ -1,6 +1,6 @@
 // The ancestor entries that a head copies from its upper row.
-use rows::check::is_link;
-use rows::layout::ENTRIES;
+use layer::check::is_link;
+use layer::layout::ENTRIES;
 ghost use mathlib.Core.Path.{_≡_};
 ghost use Rattle.join.specs.Copied.{areLinks, copiesLinks};
 

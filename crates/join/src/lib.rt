@@ -1,9 +1,8 @@
-// A row that stands alone joins under a row: a plan, which only reads, then stores.
+// A row that stands alone joins under a row: its seat is found, which only reads, then it is stored. No labels, levels or roots.
 pub mod attach;
 mod chain;
 mod check_walk;
 mod copied;
-mod good;
 pub mod lone;
-pub mod plan;
+pub mod seat;
 pub mod store;

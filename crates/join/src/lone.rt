@@ -1,14 +1,14 @@
 // A row that stands alone: a tree by itself, numbered as one. Its label, level and root are left as they are.
 use crate::attach::put_links;
+use layer::layout::DEPTH;
+use layer::layout::NEXT_FREE;
+use layer::layout::NONE;
+use layer::layout::SET_SIZE;
+use layer::layout::SIZE;
+use layer::layout::START;
+use layer::write::put_field;
+use layer::write::put_number;
 use renumber::entries::put_entries;
-use rows::layout::DEPTH;
-use rows::layout::NEXT_FREE;
-use rows::layout::NONE;
-use rows::layout::SET_SIZE;
-use rows::layout::SIZE;
-use rows::layout::START;
-use rows::write::put_field;
-use rows::write::put_number;
 ghost use mathlib.Core.Path.{_≡_};
 ghost use Rattle.join.specs.Lone.{loneFields, loneNumbers, loneEntries};
 

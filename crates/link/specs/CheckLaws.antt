@@ -5,15 +5,15 @@ use mathlib.Core.Logic.{_≢_}
 use Prim.Native.Nat.{ℕ, _≤_, _<_}
 use borrow.Author.Tests.{eq-eqb, ne-eqb, lt-ltb, le-ltb}
 use Rattle.tree_laws.specs.Ancestor.{none}
-use Rattle.rows.specs.declared.capacity.Fit.the-variants.{Capacity, Misfit as NoFit}
-use Rattle.rows.specs.declared.refusal.Refusal.the-variants.{UnknownNode, Misfit, Corrupt, BadLabel, NotRoot, SameTree}
-use Rattle.rows.specs.declared.state.State.{State}
-use Rattle.rows.specs.Row.{Parts}
-use Rattle.rows.specs.Capacity.{capacityOf}
-use Rattle.rows.specs.State.{isStanding}
-use Rattle.rows.specs.Table.{tableOf}
-use Rattle.rows.specs.Tree.{treeAt, rootAt}
-use Rattle.inspect_laws.specs.Inspects.{inspects}
+use Rattle.table.specs.declared.capacity.Fit.the-variants.{Capacity, Misfit as NoFit}
+use Rattle.table.specs.declared.refusal.Refusal.the-variants.{UnknownNode, Misfit, Corrupt, BadLabel, NotRoot, SameTree}
+use Rattle.table.specs.declared.state.State.{State}
+use Rattle.table.specs.Parts.{Parts}
+use Rattle.table.specs.Capacity.{capacityOf}
+use Rattle.table.specs.State.{isStanding}
+use Rattle.table.specs.Table.{tableOf}
+use Rattle.table.specs.Tree.{treeAt, rootAt}
+use Rattle.inspect.specs.Inspects.{inspects}
 use Rattle.growth.specs.Plan.{isLabel}
 use Rattle.link.specs.declared.check.Checked.the-variants.{Serve, Refuse}
 use Rattle.link.specs.Link.{linkWithin, linkChecked}

@@ -5,9 +5,11 @@ use lib.Dec.{eqb}
 use lib.IntN.{ℤ}
 use Rattle.laws.specs.Test.{pick}
 use Rattle.tree_laws.specs.Ancestor.{none}
-use Rattle.rows.specs.Layout.{parentPlace, rootPlace, treePlace}
-use Rattle.rows.specs.Row.{Parts, partsOf, fieldAt, entryAt}
-use Rattle.rows.specs.Write.{withField}
+use Rattle.layer.specs.Layout.{parentPlace, treePlace}
+use Rattle.table.specs.Layout.{rootPlace}
+use Rattle.table.specs.Parts.{Parts, partsOf}
+use Rattle.layer.specs.Row.{fieldAt, entryAt}
+use Rattle.layer.specs.Write.{withField}
 use Rattle.renumber.specs.NumberWalk.{Written, written}
 use Rattle.join.specs.Lone.{loneFields, loneNumbers, loneEntries}
 

@@ -5,9 +5,10 @@ use mathlib.Core.List.{List}
 use Prim.Native.Nat.{ℕ, suc}
 use borrow.Author.Tests.{eq-eqb, ne-eqb}
 use Rattle.tree_laws.specs.Ancestor.{none}
-use Rattle.rows.specs.Layout.{parentPlace, rootPlace, treePlace}
-use Rattle.rows.specs.Row.{fieldAt, entryAt}
-use Rattle.rows.specs.Write.{withField}
+use Rattle.layer.specs.Layout.{parentPlace, treePlace}
+use Rattle.table.specs.Layout.{rootPlace}
+use Rattle.layer.specs.Row.{fieldAt, entryAt}
+use Rattle.layer.specs.Write.{withField}
 use Rattle.renumber.specs.NumberWalk.{Written, written}
 use Rattle.join.specs.Lone.{loneFields, loneNumbers, loneEntries}
 use Rattle.link.specs.Detach.{keptParent, keptParents, turnedLine, partedRow, partedRows, turnedFields, detachedFrom}

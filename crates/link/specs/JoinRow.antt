@@ -5,25 +5,26 @@ use lib.Dec.{eqb}
 use lib.IntN.{pos, _+ℤ_}
 use Rattle.laws.specs.Test.{pick}
 use Rattle.tree_laws.specs.Ancestor.{none}
-use Rattle.rows.specs.Layout.{labelPlace, rootPlace}
-use Rattle.rows.specs.Row.{Parts, fieldAt, levelAt}
-use Rattle.join.specs.declared.plan.Planned.{Planned}
-use Rattle.join.specs.declared.plan.Planned.the-variants.{Grow, Start, Refuse}
-use Rattle.join.specs.Plan.{plannedRow}
-use Rattle.join.specs.Store.{Stored, stored, storedBy}
-use Rattle.growth.specs.Level.{levelOf, onLevel}
+use Rattle.table.specs.Layout.{labelPlace, rootPlace}
+use Rattle.table.specs.Parts.{Parts, levelAt}
+use Rattle.layer.specs.Row.{fieldAt}
+use Rattle.growth.specs.declared.plan.Planned.{Planned}
+use Rattle.growth.specs.declared.plan.Planned.the-variants.{Grow, Start, Refuse}
+use Rattle.growth.specs.PlannedRow.{plannedRow}
+use Rattle.growth.specs.Store.{Stored, stored, planStored}
+use Rattle.growth.specs.Level.{levelFrom, onLevel}
 
 -- what was planned: the stores, or nothing
-unfoldable pub storedAs : Parts → ℕ → Planned → Stored
-storedAs p n (Grow g) = storedBy p n g
-storedAs p n (Start k) = stored p 0
-storedAs p n (Refuse r) = stored p 0
+unfoldable pub plannedStored : Parts → ℕ → Planned → Stored
+plannedStored p n (Grow g) = planStored p n g
+plannedStored p n (Start k) = stored p 0
+plannedStored p n (Refuse r) = stored p 0
 
 -- row z under v, of this label, one level below v
 unfoldable pub joinedUnder : Parts → ℕ → ℕ → ℕ → ℕ → Stored
 joinedUnder p n z v label =
-    onLevel (levelOf (levelAt (p .levels) v +ℤ pos 1))
-    (λ level. storedAs p n (plannedRow (p .fields) (p .numbers) (p .levels) (p .ancestors) n z v level label none))
+    onLevel (levelFrom (levelAt (p .levels) v) (levelAt (p .levels) v +ℤ pos 1))
+    (λ level. plannedStored p n (plannedRow (p .fields) (p .numbers) (p .ancestors) n z v level label none))
     (stored p 0)
 
 -- the label of row z: `door`, the label that a linked root takes, where z is that root x, else its own

@@ -8,17 +8,17 @@ use lib.Dec.{eqb, ltb}
 use lib.ListN.{length}
 use Rattle.laws.specs.Test.{pick}
 use Rattle.tree_laws.specs.Ancestor.{none}
-use Rattle.rows.specs.declared.refusal.Refusal.{Refusal}
-use Rattle.rows.specs.declared.refusal.Refusal.the-variants.{UnknownNode, Misfit, Corrupt, BadLabel, NotRoot, SameTree}
-use Rattle.rows.specs.declared.state.State.{State}
-use Rattle.rows.specs.Row.{Parts, levelAt}
-use Rattle.rows.specs.Capacity.{capacityOf}
-use Rattle.rows.specs.State.{isStanding}
-use Rattle.rows.specs.Table.{tableOf}
-use Rattle.rows.specs.Tree.{treeAt, rootAt}
-use Rattle.inspect_laws.specs.Inspects.{inspects}
-use Rattle.join.specs.Store.{Stored}
-use Rattle.growth.specs.Fitting.{onFit}
+use Rattle.table.specs.declared.refusal.Refusal.{Refusal}
+use Rattle.table.specs.declared.refusal.Refusal.the-variants.{UnknownNode, Misfit, Corrupt, BadLabel, NotRoot, SameTree}
+use Rattle.table.specs.declared.state.State.{State}
+use Rattle.table.specs.Parts.{Parts, levelAt}
+use Rattle.table.specs.Capacity.{capacityOf}
+use Rattle.table.specs.State.{isStanding}
+use Rattle.table.specs.Table.{tableOf}
+use Rattle.table.specs.Tree.{treeAt, rootAt}
+use Rattle.inspect.specs.Inspects.{inspects}
+use Rattle.growth.specs.Store.{Stored}
+use Rattle.table.specs.Capacity.{onFit}
 use Rattle.growth.specs.Plan.{isLabel}
 use Rattle.link.specs.declared.Linked.{Linked}
 use Rattle.link.specs.declared.check.Checked.{Checked}
@@ -26,7 +26,7 @@ use Rattle.link.specs.declared.check.Checked.the-variants.{Serve, Refuse
 use Rattle.link.specs.Sort.{Sorted, cellAt, sortedRows}
 use Rattle.link.specs.Detach.{detached}
 use Rattle.link.specs.Walk.{walking, joining, joinWalk}
-use Rattle.link.specs.Outcome.{Outcome, refusal, refused, under, outcomeOf}
+use Rattle.link.specs.Outcome.{Outcome, refusal, refused, linked, outcomeOf}
 
 -- the outcome, and the parts afterwards
 pub record Result : Type 0 where
@@ -66,7 +66,7 @@ joinedTree p c n tree x v door =
     joinWalk (2 * n) (cellAt (s .heads)) (cellAt (s .links)) n x door (walking (detached p n tree x v) (joining (cellAt (s .heads) 0) 0 0))
 
 unfoldable pub servedBy : Stored → Result
-servedBy o = result (o .parts) (under (o .given))
+servedBy o = result (o .parts) (linked (o .given))
 
 -- by what was decided: a refusal changes nothing
 unfoldable pub linkedBy : Parts → ℕ → ℕ → ℕ → ℕ → ℕ → Checked → Result

@@ -7,20 +7,20 @@ use native.Mathlib.Omega.{arith}
 use lib.Dec.{eqb, ltb}
 use lib.ListN.{length}
 use Rattle.laws.specs.Test.{says-eqb, says-get}
-use Rattle.rows.specs.declared.capacity.Fit.{Fit}
-use Rattle.rows.specs.declared.capacity.Fit.the-variants.{Capacity, Misfit as NoFit}
-use Rattle.rows.specs.declared.refusal.Refusal.{Refusal}
-use Rattle.rows.specs.declared.refusal.Refusal.the-variants.{UnknownNode, Misfit, Corrupt, BadLabel}
-use Rattle.rows.specs.declared.state.State.{State}
-use Rattle.rows.specs.Capacity.{Fits, capacityOf, capacityLimit}
-use Rattle.rows.specs.CapacityLaws.{fits-capacity}
-use Rattle.rows.specs.Row.{Parts, partsOf, levelAt}
-use Rattle.rows.specs.State.{isStanding}
-use Rattle.rows.specs.StateLaws.{says-standing}
+use Rattle.table.specs.declared.capacity.Fit.{Fit}
+use Rattle.table.specs.declared.capacity.Fit.the-variants.{Capacity, Misfit as NoFit}
+use Rattle.table.specs.declared.refusal.Refusal.{Refusal}
+use Rattle.table.specs.declared.refusal.Refusal.the-variants.{UnknownNode, Misfit, Corrupt, BadLabel}
+use Rattle.table.specs.declared.state.State.{State}
+use Rattle.table.specs.Capacity.{Fits, capacityOf, nodeLimit}
+use Rattle.table.specs.CapacityLaws.{fits-capacity}
+use Rattle.table.specs.Parts.{Parts, partsOf, levelAt}
+use Rattle.table.specs.State.{isStanding}
+use Rattle.table.specs.StateLaws.{says-standing}
 use Rattle.renumber.specs.NumberWalk.{written}
-use Rattle.join.specs.Good.{Held}
-use Rattle.join.specs.Store.{Stored, stored}
-use Rattle.growth.specs.Fitting.{onFit}
+use Rattle.layer.specs.Checked.{Holds}
+use Rattle.growth.specs.Store.{Stored, stored}
+use Rattle.table.specs.Capacity.{onFit}
 use Rattle.growth.specs.Plan.{isLabel}
 use Rattle.link.specs.declared.Linked.the-variants.{Under, Refused}
 use Rattle.link.specs.declared.check.Checked.{Checked}
@@ -52,8 +52,8 @@ served-tests true true true true false k q = let z : _≡_ {A = ℕ} 0 1 = cc in
 
 -- the parts and the scratch fit a capacity, and hold all rows in use
 pub record Ready (p : Parts) (scratch n : ℕ) : Type 0 where
-  pub held : Held n (p .fields) (p .numbers) (p .levels)
-  pub most : scratch ≤ capacityLimit
+  pub holds : Holds n (p .fields) (p .numbers)
+  pub most : scratch ≤ nodeLimit
 
 module _ (p : Parts) (scratch : ℕ) (s : State) (x v door : ℕ) where
   ready-within : {c tree : ℕ} → capacityOf p ≡ Capacity c → Serve tree ≡ linkWithin p c scratch s x v door → Ready p scratch (s .count)
@@ -64,7 +64,7 @@ module _ (p : Parts) (scratch : ℕ) (s : State) (x v door : ℕ) where
       let l : s .count ≤ c = says-get (says-standing c s) (q .1) in
       let same : scratch ≡ c = says-get (says-eqb scratch c) (q .0) in
       record {
-        held = record { fields = omega (arith, fit .fields); numbers = omega (arith, fit .numbers); levels = omega (arith, fit .levels) };
+        holds = record { fields = omega (arith, fit .fields); numbers = omega (arith, fit .numbers) };
         most = omega (arith, fit .most);
       }
 

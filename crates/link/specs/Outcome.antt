@@ -1,14 +1,14 @@
 -- What a link gives in 01's and 02's numbers and values, and which of them each case of `Linked` stands for.
 use Prim.Native.Nat.{ℕ}
-use Rattle.rows.specs.declared.refusal.Refusal.{Refusal}
-use Rattle.rows.specs.Refusal.{numberOf}
+use Rattle.table.specs.declared.refusal.Refusal.{Refusal}
+use Rattle.table.specs.Refusal.{numberOf}
 use Rattle.link.specs.declared.Linked.{Linked}
 use Rattle.link.specs.declared.Linked.the-variants.{Under, Refused}
 
 -- a refusal's number; or how many rows the joinings renumbered, added up
 pub data Outcome : Type 0 where
   refusal : ℕ → Outcome
-  under : ℕ → Outcome
+  linked : ℕ → Outcome
 
 -- a refusal by its name
 abbrev pub refused : Refusal → Outcome
@@ -16,5 +16,5 @@ refused r = refusal (numberOf r)
 
 -- the number or the value of each case
 abbrev pub outcomeOf : Linked → Outcome
-outcomeOf (Under j) = under (j .rows)
+outcomeOf (Under j) = linked (j .rows)
 outcomeOf (Refused r) = refused r

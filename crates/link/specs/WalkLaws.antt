@@ -6,43 +6,44 @@ use native.Mathlib.Omega.{arith}
 use borrow.Author.Tests.{eq-eqb, ne-eqb, le-leb, lt-leb, lt-ltb, le-ltb}
 use lib.IntN.{ℤ, pos, _+ℤ_}
 use Rattle.tree_laws.specs.Ancestor.{none}
-use Rattle.rows.specs.Layout.{rootPlace}
-use Rattle.rows.specs.declared.refusal.Refusal.{Refusal}
-use Rattle.rows.specs.Row.{Parts, fieldAt, levelAt}
-use Rattle.join.specs.declared.plan.Plan.{Plan}
-use Rattle.join.specs.declared.plan.Planned.{Planned}
-use Rattle.join.specs.declared.plan.Planned.the-variants.{Grow, Start, Refuse}
-use Rattle.join.specs.Plan.{plannedRow}
-use Rattle.join.specs.Store.{Stored, stored, storedBy}
+use Rattle.table.specs.Layout.{rootPlace}
+use Rattle.table.specs.declared.refusal.Refusal.{Refusal}
+use Rattle.table.specs.Parts.{Parts, levelAt}
+use Rattle.layer.specs.Row.{fieldAt}
+use Rattle.growth.specs.declared.plan.Plan.{Plan}
+use Rattle.growth.specs.declared.plan.Planned.{Planned}
+use Rattle.growth.specs.declared.plan.Planned.the-variants.{Grow, Start, Refuse}
+use Rattle.growth.specs.PlannedRow.{plannedRow}
+use Rattle.growth.specs.Store.{Stored, stored, planStored}
 use Rattle.growth.specs.declared.level.Level.{Level}
 use Rattle.growth.specs.declared.level.Level.the-variants.{At, Out}
-use Rattle.growth.specs.Level.{levelOf}
+use Rattle.growth.specs.Level.{levelFrom}
 use Rattle.link.specs.declared.joins.Joining.{Joining}
-use Rattle.link.specs.JoinRow.{labelFor, storedAs, joinedUnder, joinRow}
+use Rattle.link.specs.JoinRow.{labelFor, plannedStored, joinedUnder, joinRow}
 use Rattle.link.specs.Walk.{within32, walking, joining, joinedOn, nextDepth, joinTurn, joinWalk}
 
 -- one join
 
-pub store-grown : (p : Parts) (n : ℕ) (o : Stored) (q : Planned) (g : Plan) → q ≡ Grow g → o ≡ storedBy p n g → o ≡ storedAs p n q
-unfolding storedAs
+pub store-grown : (p : Parts) (n : ℕ) (o : Stored) (q : Planned) (g : Plan) → q ≡ Grow g → o ≡ planStored p n g → o ≡ plannedStored p n q
+unfolding plannedStored
 store-grown p n o q g e h = rw e h
 
-pub store-start : (p : Parts) (n : ℕ) (q : Planned) (k : ℕ) → q ≡ Start k → stored p 0 ≡ storedAs p n q
-unfolding storedAs
+pub store-start : (p : Parts) (n : ℕ) (q : Planned) (k : ℕ) → q ≡ Start k → stored p 0 ≡ plannedStored p n q
+unfolding plannedStored
 store-start p n q k e = rw e
 
-pub store-refused : (p : Parts) (n : ℕ) (q : Planned) (r : Refusal) → q ≡ Refuse r → stored p 0 ≡ storedAs p n q
-unfolding storedAs
+pub store-refused : (p : Parts) (n : ℕ) (q : Planned) (r : Refusal) → q ≡ Refuse r → stored p 0 ≡ plannedStored p n q
+unfolding plannedStored
 store-refused p n q r e = rw e
 
 module _ (p : Parts) (n x door z : ℕ) {v : ℕ} {level : Level} (under : v ≡ fieldAt (p .fields) z rootPlace)
-    (told : level ≡ levelOf (levelAt (p .levels) v +ℤ pos 1)) where
+    (told : level ≡ levelFrom (levelAt (p .levels) v) (levelAt (p .levels) v +ℤ pos 1)) where
   pub join-out : level ≡ Out → stored p 0 ≡ joinRow p n x door z
   unfolding joinRow joinedUnder
   join-out e = rw (← under, ← told, e)
 
   pub join-at : {k : ℤ} {label : ℕ} {planned : Planned} {o : Stored} → level ≡ At k → label ≡ labelFor (p .fields) x door z
-      → planned ≡ plannedRow (p .fields) (p .numbers) (p .levels) (p .ancestors) n z v k label none → o ≡ storedAs p n planned → o ≡ joinRow p n x door z
+      → planned ≡ plannedRow (p .fields) (p .numbers) (p .ancestors) n z v k label none → o ≡ plannedStored p n planned → o ≡ joinRow p n x door z
   unfolding joinRow joinedUnder
   join-at e f g h = rw (← under, ← told, e, ← f, ← g) h
 

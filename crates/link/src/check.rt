@@ -1,17 +1,17 @@
 // What a link decides before its first store: its refusals in their order.
 use growth::plan_leaf::is_label;
 use inspect::is_ours;
-use rows::capacity::Fit;
-use rows::capacity::capacity;
-use rows::layout::NONE;
-use rows::refusal::Refusal;
-use rows::state::State;
-use rows::state::is_standing;
-use rows::tree::root_of;
-use rows::tree::tree_of;
+use layer::layout::NONE;
+use table::capacity::Fit;
+use table::capacity::capacity;
+use table::refusal::Refusal;
+use table::state::State;
+use table::state::is_standing;
+use table::tree::root_of;
+use table::tree::tree_of;
 ghost use mathlib.Core.Path.{_≡_};
 ghost use lib.ListN.{length};
-ghost use Rattle.rows.specs.Row.{partsOf};
+ghost use Rattle.table.specs.Parts.{partsOf};
 ghost use Rattle.link.specs.Link.{linkChecked};
 
 // A link that is served, with the first row of the tree of x; or why it is refused.

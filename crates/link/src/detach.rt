@@ -1,12 +1,12 @@
 // The rows of a tree detached: each stands alone, and its root field, which says nothing in such a row, holds the row that it will come under.
 use join::lone::stand_alone;
-use rows::layout::NONE;
-use rows::layout::PARENT;
-use rows::layout::ROOT;
-use rows::layout::TREE;
-use rows::row::entry;
-use rows::row::field;
-use rows::write::put_field;
+use layer::layout::NONE;
+use layer::layout::PARENT;
+use layer::layout::TREE;
+use layer::row::entry;
+use layer::row::field;
+use layer::write::put_field;
+use table::layout::ROOT;
 ghost use mathlib.Core.Path.{_≡_};
 ghost use Rattle.renumber.specs.NumberWalk.{written};
 ghost use Rattle.link.specs.Detach.{keptParent, keptParents, turnedLine, partedRow, partedRows, detachedFrom};

@@ -1,23 +1,23 @@
 // The joins of a link: the rows that wait, each alone, come one after another under the rows that their root fields name.
 use growth::level::Level;
 use growth::level::leaf_level;
+use growth::plan::Planned;
+use growth::plan::plan_row;
+use growth::store::store;
 use inspect_tree::cells::cell;
-use join::plan::Planned;
-use join::plan::plan_row;
-use join::store::store;
-use rows::layout::LABEL;
-use rows::layout::NONE;
-use rows::layout::ROOT;
-use rows::row::field;
-use rows::row::level;
+use layer::layout::NONE;
+use layer::row::field;
+use table::layout::LABEL;
+use table::layout::ROOT;
+use table::level::level;
 ghost use mathlib.Core.Path.{_≡_};
 ghost use Prim.Native.Nat.{_+_, _*_};
 ghost use lib.IntN.{pos, _+ℤ_};
-ghost use Rattle.rows.specs.Row.{levelAt, partsOf};
-ghost use Rattle.join.specs.Good.{Held};
-ghost use Rattle.join.specs.Store.{stored};
-ghost use Rattle.growth.specs.Level.{levelOf};
-ghost use Rattle.link.specs.JoinRow.{labelFor, storedAs, joinRow};
+ghost use Rattle.table.specs.Parts.{levelAt, partsOf};
+ghost use Rattle.layer.specs.Checked.{Holds};
+ghost use Rattle.growth.specs.Store.{stored};
+ghost use Rattle.growth.specs.Level.{levelFrom};
+ghost use Rattle.link.specs.JoinRow.{labelFor, plannedStored, joinRow};
 ghost use Rattle.link.specs.Sort.{cellAt};
 ghost use Rattle.link.specs.Walk.{within32, walking, joining, nextDepth, joinTurn, joinWalk};
 
@@ -40,7 +40,7 @@ fn label_for(fields: &[u16], x: u16, door: u16, z: u16) -> u16
 
 // One level below row v, where that is a level.
 fn level_under(levels: &[i32], v: u16) -> Level
-    ensures { λ r. ⌜ r ≡ levelOf (levelAt (now (levels .entry)) v +ℤ pos 1) ⌝ }
+    ensures { λ r. ⌜ r ≡ levelFrom (levelAt (now (levels .entry)) v) (levelAt (now (levels .entry)) v +ℤ pos 1) ⌝ }
 {
     leaf_level(level(levels, v))
 }
@@ -54,7 +54,7 @@ fn store_planned(
     n: u16,
     planned: Planned,
 ) -> u16
-    ensures { λ r. ⌜ stored (partsOf (now (fields .exit)) (now (numbers .exit)) (now (levels .exit)) (now (ancestors .exit))) r ≡ storedAs (partsOf (now (fields .entry)) (now (numbers .entry)) (now (levels .entry)) (now (ancestors .entry))) n planned ⌝ }
+    ensures { λ r. ⌜ stored (partsOf (now (fields .exit)) (now (numbers .exit)) (now (levels .exit)) (now (ancestors .exit))) r ≡ plannedStored (partsOf (now (fields .entry)) (now (numbers .entry)) (now (levels .entry)) (now (ancestors .entry))) n planned ⌝ }
 {
     match planned {
         Planned::Grow(g) => store(fields, numbers, levels, ancestors, n, g),
@@ -74,7 +74,7 @@ fn join_row(
     door: u16,
     z: u16,
 ) -> u16
-    requires { ⌜ Held n (now fields) (now numbers) (now levels) ⌝ }
+    requires { ⌜ Holds n (now fields) (now numbers) ⌝ }
     ensures { λ r. ⌜ stored (partsOf (now (fields .exit)) (now (numbers .exit)) (now (levels .exit)) (now (ancestors .exit))) r ≡ joinRow (partsOf (now (fields .entry)) (now (numbers .entry)) (now (levels .entry)) (now (ancestors .entry))) n x door z ⌝ }
 {
     let v = field(fields, z, ROOT);
@@ -82,7 +82,7 @@ fn join_row(
     let Level::At(l) = level_under(levels, v) else {
         return 0;
     };
-    let planned = plan_row(fields, numbers, levels, ancestors, n, z, v, l, label, NONE);
+    let planned = plan_row(fields, numbers, ancestors, n, z, v, l, label, NONE);
     store_planned(fields, numbers, levels, ancestors, n, planned)
 }
 
@@ -128,7 +128,7 @@ fn join_turn(
     door: u16,
     j: Joining,
 ) -> Joining
-    requires { ⌜ Held n (now fields) (now numbers) (now levels) ⌝ }
+    requires { ⌜ Holds n (now fields) (now numbers) ⌝ }
     ensures { λ r. ⌜ walking (partsOf (now (fields .exit)) (now (numbers .exit)) (now (levels .exit)) (now (ancestors .exit))) r ≡ joinTurn (cellAt (now (heads .entry))) (cellAt (now (links .entry))) n x door (walking (partsOf (now (fields .entry)) (now (numbers .entry)) (now (levels .entry)) (now (ancestors .entry))) j) ⌝ }
 {
     if j.row == NONE {
@@ -155,7 +155,7 @@ pub fn join_walk(
     x: u16,
     door: u16,
 ) -> u32
-    requires { ⌜ Held n (now fields) (now numbers) (now levels) ⌝ }
+    requires { ⌜ Holds n (now fields) (now numbers) ⌝ }
     ensures { λ r. ⌜ stored (partsOf (now (fields .exit)) (now (numbers .exit)) (now (levels .exit)) (now (ancestors .exit))) r ≡ joinWalk (2 * n) (cellAt (now (heads .entry))) (cellAt (now (links .entry))) n x door (walking (partsOf (now (fields .entry)) (now (numbers .entry)) (now (levels .entry)) (now (ancestors .entry))) (joining (cellAt (now (heads .entry)) 0) 0 0)) ⌝ }
 {
     let mut j = Joining {

@@ -5,15 +5,15 @@ use crate::detach::detach;
 use crate::joins::join_walk;
 use crate::sort::sort_rows;
 use inspect::work;
-use rows::refusal::Refusal;
-use rows::state::State;
+use table::refusal::Refusal;
+use table::state::State;
 ghost use mathlib.Core.Path.{_≡_};
 ghost use Prim.Native.Nat.{_≤_};
 ghost use lib.ListN.{length};
-ghost use Rattle.rows.specs.Row.{partsOf};
-ghost use Rattle.rows.specs.Capacity.{capacityLimit};
-ghost use Rattle.join.specs.Good.{Held};
-ghost use Rattle.join.specs.Store.{stored};
+ghost use Rattle.table.specs.Parts.{partsOf};
+ghost use Rattle.table.specs.Capacity.{nodeLimit};
+ghost use Rattle.layer.specs.Checked.{Holds};
+ghost use Rattle.growth.specs.Store.{stored};
 ghost use Rattle.link.specs.Link.{joinedTree, LinkCall};
 
 mod check;
@@ -45,7 +45,7 @@ fn join_tree(
     v: u16,
     door: u16,
 ) -> u32
-    requires { ⌜ Held n (now fields) (now numbers) (now levels) ⌝ }
+    requires { ⌜ Holds n (now fields) (now numbers) ⌝ }
     requires { ⌜ length (now heads) ≡ length (now links) ⌝ }
     ensures { λ r. ⌜ stored (partsOf (now (fields .exit)) (now (numbers .exit)) (now (levels .exit)) (now (ancestors .exit))) r ≡ joinedTree (partsOf (now (fields .entry)) (now (numbers .entry)) (now (levels .entry)) (now (ancestors .entry))) (length (now (links .entry))) n tree x v door ⌝ }
 {
@@ -67,8 +67,8 @@ fn serve(
     v: u16,
     door: u16,
 ) -> u32
-    requires { ⌜ Held n (now fields) (now numbers) (now levels) ⌝ }
-    requires { ⌜ length (now scratch) ≤ capacityLimit ⌝ }
+    requires { ⌜ Holds n (now fields) (now numbers) ⌝ }
+    requires { ⌜ length (now scratch) ≤ nodeLimit ⌝ }
     ensures { λ r. ⌜ stored (partsOf (now (fields .exit)) (now (numbers .exit)) (now (levels .exit)) (now (ancestors .exit))) r ≡ joinedTree (partsOf (now (fields .entry)) (now (numbers .entry)) (now (levels .entry)) (now (ancestors .entry))) (length (now (scratch .entry))) n tree x v door ⌝ }
 {
     let cap = scratch.len();

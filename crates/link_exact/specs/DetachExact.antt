@@ -1,40 +1,42 @@
 -- The rows of the linked tree, detached in the lent parts, stand alone with their targets in their root fields.
 use mathlib.Core.Path.{_≡_, refl, ap, sym, subst, _∙_}
-use mathlib.Core.Logic.{_⊎_, inl, inr, _≢_}
+use mathlib.Core.Logic.{_≢_}
 use mathlib.Core.List.{List}
-use Prim.Native.Nat.{ℕ, zero, suc, _+_, _*_, _^_, _≤_, _<_}
+use Prim.Native.Nat.{ℕ, zero, suc, _+_, _≤_, _<_}
 use native.Mathlib.Decide.{ℕ-discrete}
 use native.Mathlib.Omega.{arith}
-use lib.Dec.{ltb}
-use lib.IntN.{ℤ, pos}
-use lib.ListN.{getD}
-use Rattle.laws.specs.Test.{pick, says-true, says-false, says-eqb, says-get, says-not-get}
+use Rattle.laws.specs.Test.{says-true, says-false, says-eqb, says-get, says-not-get}
 use Rattle.tree_laws.specs.Ancestor.{none, here, there, Forest}
 use Rattle.tree_laws.specs.Reroot.{PlainParent, root, turned, kept, plainParent}
 use Rattle.tree_laws.specs.RerootLaws.{plain-parent}
 use Rattle.tree_laws.specs.SizeDepth.{depth-below}
-use Rattle.span.specs.Constants.{ratioUp, ratioDown}
 use Rattle.span.specs.Numbers.{reachOf}
 use Rattle.tree_laws.specs.Top.{top-anc}
-use Rattle.rows.specs.Layout.{fieldStride, parentPlace, labelPlace, rootPlace, treePlace}
-use Rattle.rows.specs.Row.{Parts, fieldAt, entryAt}
-use Rattle.rows.specs.Capacity.{Fits}
-use Rattle.rows.specs.Write.{withField}
-use Rattle.rows.specs.Table.{Table, tableOf, parent, depth}
-use Rattle.rows.specs.PlainTree.{first}
-use Rattle.rows.specs.Rules.{Rules, Numbered, numbered}
-use Rattle.renumbering.specs.Column.{put, put-same, put-other}
+use Rattle.layer.specs.Layout.{fieldStride, parentPlace, treePlace}
+use Rattle.table.specs.Layout.{labelPlace, rootPlace}
+use Rattle.table.specs.Parts.{Parts}
+use Rattle.layer.specs.Row.{fieldAt, entryAt}
+use Rattle.table.specs.Capacity.{Fits}
+use Rattle.layer.specs.Write.{withField}
+use Rattle.table.specs.Table.{Table, tableOf}
+use Rattle.layer.specs.Layer.{Layer, parent, depth}
+use Rattle.layer.specs.Entries.{entryFrom}
+use Rattle.layer.specs.StoredTree.{first}
+use Rattle.table.specs.Rules.{Rules, numbered}
+use Rattle.layer.specs.Numbered.{Numbered}
+use Rattle.renumber_laws.specs.Column.{put, put-same, put-other}
 use Rattle.link_laws.specs.Turn.{turnedUp, turned-off, turned-here, turned-on}
-use Rattle.growth_exact.specs.Columns.{Holds, holds-set, set-same, set-other}
-use Rattle.growth_exact.specs.LoneExact.{lone-fits, stands-alone, stays, lone-marks}
-use Rattle.growth_laws.specs.Lone.{Lone, Kept}
-use Rattle.numbering.specs.Numbered.{shape, storedTree}
-use Rattle.numbering.specs.TreeEntry.{entry-first}
+use Rattle.renumber_exact.specs.Columns.{Holds, holds-set, set-same, set-other}
+use Rattle.renumber_exact.specs.Lent.{Long, layerIn, SameRest}
+use Rattle.join_exact.specs.LoneExact.{lone-long, stands-alone, stays, lone-rest}
+use Rattle.join_laws.specs.Lone.{Lone, Kept}
+use Rattle.layer_laws.specs.Numbered.{shape, storedTree}
+use Rattle.layer_laws.specs.TreeEntry.{entry-first}
 use Rattle.link_laws.specs.Link.{target, Linkable}
 use Rattle.link_exact.specs.LinkExact.{Detached}
 use Rattle.renumber.specs.NumberWalk.{Written, written}
 use Rattle.link.specs.DetachLaws.{other-parted, tree-parted}
-use Rattle.link.specs.Detach.{keptParent, keptParents, turnedLine, lonely, partedRow, partedRows, turnedFields, detachedFrom, withLevels, detached}
+use Rattle.link.specs.Detach.{keptParent, keptParents, turnedLine, lonely, partedRow, partedRows, turnedFields, detachedFrom, detached}
 
 -- Stored parents kept as roots
 
@@ -112,7 +114,7 @@ module _ {c n : ℕ} {up rank : ℕ → ℕ} (t : Forest up rank n) (room : n �
 
 -- Rows standing alone, one after another
 
-lone-kept : {t d : Table} {y : ℕ} → Lone t y → Kept t d y → Lone d y
+lone-kept : {t d : Layer} {y : ℕ} → Lone t y → Kept t d y → Lone d y
 lone-kept {t} {d} {y} a k = record {
   parentNone = k .sameParent ∙ a .parentNone;
   depthZero = k .sameDepth ∙ a .depthZero;
@@ -125,10 +127,10 @@ lone-kept {t} {d} {y} a k = record {
   setSizeOne = k .sameSetSize ∙ a .setSizeOne;
   startZero = k .sameStart ∙ a .startZero;
   nextFreeOne = k .sameNextFree ∙ a .nextFreeOne;
-  filled = λ i b. k .sameEntry i b ∙ a .filled i b ∙ ap (λ (s : ℕ). pick (ltb (reachOf s * ratioDown ^ i) (ratioUp ^ i)) y none) (sym (k .sameSetSize));
+  filled = λ i b. k .sameEntry i b ∙ a .filled i b ∙ ap (λ (s : ℕ). entryFrom y (reachOf s) i none) (sym (k .sameSetSize));
 }
 
-kept-trans : {t d e : Table} {y : ℕ} → Kept t d y → Kept d e y → Kept t e y
+kept-trans : {t d e : Layer} {y : ℕ} → Kept t d y → Kept d e y → Kept t e y
 kept-trans a b = record {
   sameParent = b .sameParent ∙ a .sameParent;
   sameDepth = b .sameDepth ∙ a .sameDepth;
@@ -144,7 +146,7 @@ kept-trans a b = record {
   sameEntry = λ i l. b .sameEntry i l ∙ a .sameEntry i l;
 }
 
-kept-same : {t : Table} {y : ℕ} → Kept t t y
+kept-same : {t : Layer} {y : ℕ} → Kept t t y
 kept-same = record {
   sameParent = refl;
   sameDepth = refl;
@@ -160,53 +162,49 @@ kept-same = record {
   sameEntry = λ i l. refl;
 }
 
--- the m rows from w on have been looked at: those of the tree stand alone, the others are as they were; labels, levels and roots stay
-record PartedTo (c n tree m w : ℕ) (p q : Parts) : Type 0 where
-  fit : Fits c q
-  levels : q .levels ≡ p .levels
-  marks : (y j : ℕ) → (j ≡ labelPlace) ⊎ (j ≡ rootPlace) → fieldAt (q .fields) y j ≡ fieldAt (p .fields) y j
-  on : (y : ℕ) → w ≤ y → y < w + m → entryAt (p .ancestors) y treePlace ≡ tree → Lone (tableOf q n) y
-  low : (y : ℕ) → y < w → Kept (tableOf p n) (tableOf q n) y
-  off : (y : ℕ) → entryAt (p .ancestors) y treePlace ≢ tree → Kept (tableOf p n) (tableOf q n) y
+-- the m rows from w on have been looked at: those of the tree stand alone, the others are as they were; what is not the layer's stays
+record PartedTo (c n tree m w : ℕ) (p q : Written) : Type 0 where
+  long : Long c q
+  rest : SameRest (p .fields) (q .fields)
+  on : (y : ℕ) → w ≤ y → y < w + m → entryAt (p .ancestors) y treePlace ≡ tree → Lone (layerIn q n) y
+  low : (y : ℕ) → y < w → Kept (layerIn p n) (layerIn q n) y
+  off : (y : ℕ) → entryAt (p .ancestors) y treePlace ≢ tree → Kept (layerIn p n) (layerIn q n) y
 
 -- from what the first row became
-on-row : (l : List ℤ) (c n tree m w : ℕ) (p : Written) {q : Written} → q ≡ partedRow tree w p
-    → PartedTo c n tree (suc m) w (withLevels l p) (withLevels l (partedRows tree m (suc w) q)) → PartedTo c n tree (suc m) w (withLevels l p) (withLevels l (partedRows tree (suc m) w p))
+on-row : (c n tree m w : ℕ) (p : Written) {q : Written} → q ≡ partedRow tree w p
+    → PartedTo c n tree (suc m) w p (partedRows tree m (suc w) q) → PartedTo c n tree (suc m) w p (partedRows tree (suc m) w p)
 unfolding partedRows
-on-row l c n tree m w p e k = subst (λ (q : Written). PartedTo c n tree (suc m) w (withLevels l p) (withLevels l (partedRows tree m (suc w) q))) e k
+on-row c n tree m w p e k = subst (λ (q : Written). PartedTo c n tree (suc m) w p (partedRows tree m (suc w) q)) e k
 
-parts-alone : (l : List ℤ) (c n tree m w : ℕ) (p : Written) → w + m ≤ c → Fits c (withLevels l p) → PartedTo c n tree m w (withLevels l p) (withLevels l (partedRows tree m w p))
+parts-alone : (c n tree m w : ℕ) (p : Written) → w + m ≤ c → Long c p → PartedTo c n tree m w p (partedRows tree m w p)
 unfolding partedRows
-parts-alone v c n tree zero w p l f = record {
-  fit = f;
-  levels = refl;
-  marks = λ y j e. refl;
+parts-alone c n tree zero w p l f = record {
+  long = f;
+  rest = λ y k a b. refl;
   on = λ y i j e. absurd (omega arith);
   low = λ y i. kept-same;
   off = λ y d. kept-same;
 }
-parts-alone v c n tree (suc m) w p l f = elim (ℕ-discrete (entryAt (p .ancestors) w treePlace) tree) [
+parts-alone c n tree (suc m) w p l f = elim (ℕ-discrete (entryAt (p .ancestors) w treePlace) tree) [
   | yes e ↦
       let i : w < c = omega arith in
-      let k = parts-alone v c n tree m (suc w) (lonely p w) (omega arith) (lone-fits (withLevels v p) f w i) in
-      let same : (y : ℕ) → y ≢ w → Kept (tableOf (withLevels v p) n) (tableOf (withLevels v (lonely p w)) n) y = λ y d. stays (withLevels v p) f w i n y d in
-      on-row v c n tree m w p (tree-parted tree w p _ _ _ refl e refl refl refl) record {
-        fit = k .fit;
-        levels = k .levels;
-        marks = λ y j o. k .marks y j o ∙ lone-marks (withLevels v p) f w i y j o;
+      let k = parts-alone c n tree m (suc w) (lonely p w) (omega arith) (lone-long p f w i) in
+      let same : (y : ℕ) → y ≢ w → Kept (layerIn p n) (layerIn (lonely p w) n) y = λ y d. stays p f w i n y d in
+      on-row c n tree m w p (tree-parted tree w p _ _ _ refl e refl refl refl) record {
+        long = k .long;
+        rest = λ y j a b. k .rest y j a b ∙ lone-rest p f w i y j a b;
         on = λ y a b o. elim (ℕ-discrete y w) [
-          | yes z ↦ rw z (lone-kept (stands-alone (withLevels v p) f w i n) (k .low w (omega arith)))
+          | yes z ↦ rw z (lone-kept (stands-alone p f w i n) (k .low w (omega arith)))
           | no d ↦ k .on y (omega arith) (omega arith) (same y d .sameEntry treePlace (omega arith) ∙ o)
         ];
         low = λ y a. kept-trans (same y (λ z. omega arith)) (k .low y (omega arith));
         off = λ y d. let o : y ≢ w = λ z. d (rw z e) in kept-trans (same y o) (k .off y (λ z. d (sym (same y o .sameEntry treePlace (omega arith)) ∙ z)));
       }
   | no d ↦
-      let k = parts-alone v c n tree m (suc w) p (omega arith) f in
-      on-row v c n tree m w p (other-parted tree w p refl d) record {
-        fit = k .fit;
-        levels = k .levels;
-        marks = k .marks;
+      let k = parts-alone c n tree m (suc w) p (omega arith) f in
+      on-row c n tree m w p (other-parted tree w p refl d) record {
+        long = k .long;
+        rest = k .rest;
         on = λ y a b o. elim (ℕ-discrete y w) [ yes z ↦ absurd (d (rw z at o)) | no j ↦ k .on y (omega arith) (omega arith) o ];
         low = λ y a. k .low y (omega arith);
         off = k .off;
@@ -220,16 +218,16 @@ module _ {c : ℕ} {p : Parts} {n x v door : ℕ} (r : Rules c (tableOf p n)) (f
   t = tableOf p n
 
   abbrev tree : ℕ
-  tree = first t x
+  tree = first (t .layer) x
 
-  num : Numbered t
+  num : Numbered (t .layer)
   num = numbered r (fit .most)
 
-  was : Forest (parent t) (depth t) n
+  was : Forest (parent (t .layer)) (depth (t .layer)) n
   was = storedTree num
 
   room : n ≤ c
-  room = r .one .count
+  room = r .one .trees .count
 
   held : Holds fieldStride c (p .fields)
   held = record { most = fit .most; long = fit .fields }
@@ -240,26 +238,23 @@ module _ {c : ℕ} {p : Parts} {n x v door : ℕ} (r : Rules c (tableOf p n)) (f
   k₁ : Keeps (p .ancestors) tree c n 0 (p .fields) f₁
   k₁ = keeps (p .ancestors) tree c n 0 (p .fields) (omega (arith, room)) held
 
-  k₂ : Turns c (parent t) n x v (λ y. fieldAt f₁ y rootPlace) f₁ (turnedLine n f₁ x v)
+  k₂ : Turns c (parent (t .layer)) n x v (λ y. fieldAt f₁ y rootPlace) f₁ (turnedLine n f₁ x v)
   k₂ = turns was room n f₁ (λ y. fieldAt f₁ y rootPlace) x v (h .inUse) (k₁ .holds)
       (λ y l. k₁ .rest y parentPlace (omega arith) (λ e. omega arith)) (λ y. refl)
 
   abbrev w₂ : Written
   w₂ = written (turnedLine n f₁ x v) (p .numbers) (p .ancestors)
 
-  abbrev p₂ : Parts
-  p₂ = withLevels (p .levels) w₂
+  long₂ : Long c w₂
+  long₂ = record { most = omega (arith, fit .most); fields = k₂ .holds .long; numbers = fit .numbers; ancestors = fit .ancestors }
 
-  fit₂ : Fits c p₂
-  fit₂ = record { least = fit .least; most = fit .most; levels = fit .levels; fields = k₂ .holds .long; numbers = fit .numbers; ancestors = fit .ancestors }
-
-  k₃ : PartedTo c n tree n 0 p₂ (withLevels (p .levels) (partedRows tree n 0 w₂))
-  k₃ = parts-alone (p .levels) c n tree n 0 w₂ (omega (arith, room)) fit₂
+  k₃ : PartedTo c n tree n 0 w₂ (partedRows tree n 0 w₂)
+  k₃ = parts-alone c n tree n 0 w₂ (omega (arith, room)) long₂
 
   same : (y j : ℕ) → j < fieldStride → j ≢ rootPlace → fieldAt (turnedLine n f₁ x v) y j ≡ fieldAt (p .fields) y j
   same y j i d = k₂ .rest y j i d ∙ k₁ .rest y j i d
 
-  kept₂ : (y : ℕ) → Kept t (tableOf p₂ n) y
+  kept₂ : (y : ℕ) → Kept (t .layer) (layerIn w₂ n) y
   kept₂ y = record {
     sameParent = same y 0 (omega arith) (λ e. omega arith);
     sameDepth = same y 8 (omega arith) (λ e. omega arith);
@@ -275,45 +270,52 @@ module _ {c : ℕ} {p : Parts} {n x v door : ℕ} (r : Rules c (tableOf p n)) (f
     sameEntry = λ i b. refl;
   }
 
-  entry-is : (y : ℕ) → y < n → entryAt (p .ancestors) y treePlace ≡ first t y
+  entry-is : (y : ℕ) → y < n → entryAt (p .ancestors) y treePlace ≡ first (t .layer) y
   entry-is y l = entry-first num y l
 
   -- the targets
-  deep : depth t x ≤ n
+  deep : depth (t .layer) x ≤ n
   deep = omega (arith, depth-below (shape num) x (h .inUse))
 
-  root-is : (w : ℕ) → first t w ≡ tree → t .root (first t w) ≡ x
+  root-is : (w : ℕ) → first (t .layer) w ≡ tree → t .root (first (t .layer) w) ≡ x
   root-is w e = ap (t .root) e ∙ h .isRoot
 
-  target-of : (w y : ℕ) → w < n → first t w ≡ tree → w ≢ x → PlainParent (parent t) x w y → turnedUp (parent t) n (λ y. fieldAt f₁ y rootPlace) x v w ≡ y
+  target-of : (w y : ℕ) → w < n → first (t .layer) w ≡ tree → w ≢ x → PlainParent (parent (t .layer)) x w y → turnedUp (parent (t .layer)) n (λ y. fieldAt f₁ y rootPlace) x v w ≡ y
   target-of w y l e d root = absurd (d refl)
   target-of w y l e d (turned {y = c} g o q) = turned-on was n (λ y. fieldAt f₁ y rootPlace) x v w c (h .inUse) deep g o q
   target-of w y l e d (kept o) = turned-off was n (λ y. fieldAt f₁ y rootPlace) x v w (h .inUse) deep o
       ∙ k₁ .on w (omega arith) (omega arith) (entry-is w l ∙ e)
 
-  targets : (w : ℕ) → w < n → first t w ≡ tree → turnedUp (parent t) n (λ y. fieldAt f₁ y rootPlace) x v w ≡ target t x v w
+  targets : (w : ℕ) → w < n → first (t .layer) w ≡ tree → turnedUp (parent (t .layer)) n (λ y. fieldAt f₁ y rootPlace) x v w ≡ target t x v w
   targets w l e = elim (ℕ-discrete w x) [
     | yes z ↦ rw (z, says-true (says-eqb x x) refl) (turned-here was n (λ y. fieldAt f₁ y rootPlace) x v (h .inUse) deep)
-    | no d ↦ rw (says-false (says-eqb w x) d, root-is w e) (target-of w (plainParent (parent t) (depth t) x w) l e d (plain-parent was (h .inUse) w l))
+    | no d ↦ rw (says-false (says-eqb w x) d, root-is w e) (target-of w (plainParent (parent (t .layer)) (depth (t .layer)) x w) l e d (plain-parent was (h .inUse) w l))
   ]
 
   pub detached-is : Detached c p (detached p n tree x v) n x v
   unfolding detached detachedFrom turnedFields
   detached-is = record {
-    fit = k₃ .fit;
+    fit = record {
+      least = fit .least;
+      most = fit .most;
+      levels = fit .levels;
+      fields = k₃ .long .fields;
+      numbers = k₃ .long .numbers;
+      ancestors = k₃ .long .ancestors;
+    };
     parted = record {
-      most = num .count;
+      most = num .one .count;
       more = omega arith;
       old = λ y l e. l;
-      alone = λ y l e. k₃ .on y (omega arith) (omega arith) (entry-is y l ∙ says-get (says-eqb (first t y) tree) e);
-      kept = λ y l e. kept-trans (kept₂ y) (k₃ .off y (λ z. says-not-get (says-eqb (first t y) tree) e (sym (entry-is y l) ∙ z)));
+      alone = λ y l e. k₃ .on y (omega arith) (omega arith) (entry-is y l ∙ says-get (says-eqb (first (t .layer) y) tree) e);
+      kept = λ y l e. kept-trans (kept₂ y) (k₃ .off y (λ z. says-not-get (says-eqb (first (t .layer) y) tree) e (sym (entry-is y l) ∙ z)));
       above = λ y l e d. rw (top-anc was l (there d here)) e;
       below = λ y l d e. rw (top-anc was l (there d here)) at e;
     };
-    named = λ w l e. k₃ .marks w rootPlace (inr refl) ∙ k₂ .root w ∙ targets w l e;
-    roots = λ w l d. k₃ .marks w rootPlace (inr refl) ∙ k₂ .root w
+    named = λ w l e. k₃ .rest w rootPlace (omega arith) (omega arith) ∙ k₂ .root w ∙ targets w l e;
+    roots = λ w l d. k₃ .rest w rootPlace (omega arith) (omega arith) ∙ k₂ .root w
         ∙ turned-off was n (λ y. fieldAt f₁ y rootPlace) x v w (h .inUse) deep (λ q. d (top-anc was (h .inUse) q))
         ∙ k₁ .off w (omega (arith, room)) (λ z. d (sym (entry-is w l) ∙ z));
-    labels = λ w l. k₃ .marks w labelPlace (inl refl) ∙ same w labelPlace (omega arith) (λ e. omega arith);
-    levels = λ w l. ap (λ (z : List ℤ). getD z w (pos 0)) (k₃ .levels);
+    labels = λ w l. k₃ .rest w labelPlace (omega arith) (omega arith) ∙ same w labelPlace (omega arith) (λ e. omega arith);
+    levels = λ w l. refl;
   }

@@ -1,13 +1,12 @@
 -- The joins of a link, in the lent parts, are the joinings that 02 asks for.
 use mathlib.Core.Path.{_≡_, refl, ap, sym, _∙_}
-use mathlib.Core.Bool.{true}
 use mathlib.Core.Logic.{inl, inr, _≢_}
 use mathlib.Core.List.{List, [], _∷_}
 use Prim.Native.Nat.{ℕ, _+_, _≤_, _<_}
 use native.Mathlib.Omega.{arith}
-use borrow.Author.Tests.{lt-ltb}
+use borrow.Author.Tests.{le-leb}
 use lib.Dec.{eqb}
-use lib.IntN.{ℤ, pos, natAbs, _+ℤ_, +ℤ-one}
+use lib.IntN.{pos, natAbs, _+ℤ_, +ℤ-one}
 use Rattle.laws.specs.Test.{pick, says-true, says-false, says-eqb}
 use Rattle.tree_laws.specs.Ancestor.{none}
 use Rattle.tree_laws.specs.ChildLinks.{Member}
@@ -16,38 +15,41 @@ use Rattle.tree_laws.specs.Depth.{Depth}
 use Rattle.tree_laws.specs.Join.{Old, Alone, Joins}
 use Rattle.tree_laws.specs.JoinLaws.{old-or, join-depth}
 use Rattle.tree_laws.specs.SizeDepth.{depth-below}
-use Rattle.rows.specs.Layout.{rootPlace}
-use Rattle.rows.specs.Row.{Parts, rowOf, fieldAt}
-use Rattle.rows.specs.Capacity.{Fits}
-use Rattle.rows.specs.Sound.{levelLimit}
-use Rattle.rows.specs.SoundLaws.{says-sound}
-use Rattle.rows.specs.Table.{Table, tableOf, parent, depth, label, level}
-use Rattle.rows.specs.Rules.{Numbered}
-use Rattle.numbering.specs.Numbered.{shape}
-use Rattle.numbering.specs.SoundRows.{numbered-sound, abs-suc}
-use Rattle.growth_laws.specs.Joined.{Planted}
-use Rattle.growth_laws.specs.JoinStep.{step-planted, join-keeps}
-use Rattle.growth_laws.specs.Renumbered.{rows}
-use Rattle.link_laws.specs.Joinings.{Joinings, done, next}
+use Rattle.table.specs.Layout.{rootPlace}
+use Rattle.table.specs.Parts.{Parts}
+use Rattle.layer.specs.Row.{fieldAt}
+use Rattle.table.specs.Capacity.{Fits}
+use Rattle.table.specs.Level.{levelLimit}
+use Rattle.table.specs.Table.{Table, tableOf}
+use Rattle.layer.specs.Layer.{parent, depth}
+use Rattle.layer.specs.Numbered.{Numbered}
+use Rattle.layer_laws.specs.Numbered.{shape}
+use Rattle.table_laws.specs.LevelBounds.{abs-suc}
+use Rattle.join_laws.specs.Joined.{Planted}
+use Rattle.join_laws.specs.JoinStep.{JoinStep, step-planted, join-keeps}
+use Rattle.join_laws.specs.Renumbered.{rows}
+use Rattle.link_laws.specs.Joinings.{Marked, Joinings, done, next}
 use Rattle.link_laws.specs.JoiningsLaws.{Before}
-use Rattle.join.specs.Good.{isGood}
-use Rattle.join.specs.Store.{stored}
-use Rattle.renumbering.specs.Column.{put-other}
-use Rattle.growth_exact.specs.Site.{Site}
-use Rattle.growth_exact.specs.PlanExact.{h, row-planned, level-planned, joinedParts, joinedTable, site-stored, site-fits, site-step, site-roots}
-use Rattle.link.specs.JoinRow.{storedAs, joinedUnder, joinRow, joinAll}
+use Rattle.growth.specs.declared.level.Level.the-variants.{At}
+use Rattle.growth.specs.Level.{levelFrom}
+use Rattle.growth.specs.Store.{stored}
+use Rattle.renumber_laws.specs.Column.{put-other}
+use Rattle.join_exact.specs.Site.{Site}
+use Rattle.join_exact.specs.SeatExact.{h}
+use Rattle.growth_exact.specs.PlanExact.{layerParts, long-parts, row-planned, joinedParts, joinedTable, plan-stored, plan-fits, plan-step, mark-label, mark-level, kept-label, kept-level, plan-roots}
+use Rattle.growth_exact.specs.GrowthSite.{good-row}
+use Rattle.link.specs.JoinRow.{plannedStored, joinedUnder, joinRow, joinAll}
 
 -- the rows of the list wait, each alone, with its target in its root field
 pub record Waits (c : ℕ) (p : Parts) (n : ℕ) (target own : ℕ → ℕ) (zs : List ℕ) : Type 0 where
   pub fit : Fits c p
   pub room : n ≤ c
-  pub was : Numbered (tableOf p n)
-  pub alone : (w : ℕ) → Member zs w → Alone (parent (tableOf p n)) n w
+  pub was : Numbered (tableOf p n .layer)
+  pub alone : (w : ℕ) → Member zs w → Alone (parent (tableOf p n .layer)) n w
   pub named : (w : ℕ) → Member zs w → fieldAt (p .fields) w rootPlace ≡ target w
   pub under : (w : ℕ) → Member zs w → target w < n
-  pub labels : (w : ℕ) → Member zs w → label (tableOf p n) w ≡ own w
-  pub levels : (y : ℕ) → y < n → natAbs (level (tableOf p n) y) ≤ levelLimit
-  pub shallow : (y : ℕ) → y < n → ¬ Member zs y → natAbs (level (tableOf p n) y) ≤ depth (tableOf p n) y
+  pub labels : (w : ℕ) → Member zs w → tableOf p n .label w ≡ own w
+  pub shallow : (y : ℕ) → y < n → ¬ Member zs y → natAbs (tableOf p n .level y) ≤ depth (tableOf p n .layer) y
 
 -- a row that joins as a leaf lies above the deepest possible row
 deep-room : {up depth : ℕ → ℕ} {n z v : ℕ} → Depth up depth n → Alone up n z → Old n z v → depth v + 1 < n
@@ -73,74 +75,93 @@ module _ {c : ℕ} {p : Parts} {n : ℕ} {target own : ℕ → ℕ} {z : ℕ} {z
   over : Old n z v
   over = record { inside = q .under z (inl refl); other = λ e. before .0 (inl e) }
 
-  level-low : natAbs (level t v +ℤ pos 1) ≤ levelLimit
-  level-low = rw +ℤ-one (omega (arith, abs-suc (level t v), q .shallow v (over .inside) (before .0), deep-room (shape (q .was)) (q .alone z (inl refl)) over, q .was .count))
+  level-low : natAbs (t .level v +ℤ pos 1) ≤ levelLimit
+  level-low = rw +ℤ-one (omega (arith, abs-suc (t .level v), q .shallow v (over .inside) (before .0), deep-room (shape (q .was)) (q .alone z (inl refl)) over, q .was .one .count))
 
-  good : (y : ℕ) → Old n z y → isGood (p .fields) (p .numbers) (p .levels) n y ≡ true
-  unfolding isGood
-  good y o = rw (lt-ltb y n (o .inside), says-true (says-sound n (rowOf (p .fields) (p .numbers) (p .levels) y)) (numbered-sound (q .was) y (o .inside) (q .levels y (o .inside)))) refl
+  -- the level that it is made from is one too
+  pub level-planned : levelFrom (t .level v) (t .level v +ℤ pos 1) ≡ At (t .level v +ℤ pos 1)
+  unfolding levelFrom
+  level-planned =
+      let high : natAbs (t .level v) ≤ levelLimit = omega (arith, q .shallow v (over .inside) (before .0), depth-below (shape (q .was)) v (over .inside), q .was .one .count) in
+      rw (le-leb (natAbs (t .level v)) levelLimit high, le-leb (natAbs (t .level v +ℤ pos 1)) levelLimit level-low) refl
 
-  pub site : Site c p n t z v (level t v +ℤ pos 1)
+  pub site : Site c (layerParts p) n (t .layer) z v
   site = record {
-    fit = q .fit;
+    long = long-parts (q .fit);
     room = q .room;
     was = q .was;
     alone = q .alone z (inl refl);
     over = over;
     row = λ y o. refl;
     entry = λ y i o b. refl;
-    good = good;
+    good = λ y o. good-row (q .was) y (o .inside);
     deep = λ y o. depth-below (shape (q .was)) y (o .inside);
-    level = level-low;
   }
 
   abbrev d : ℕ → Table
-  d f = joinedTable site f none
+  d f = joinedTable (q .fit) site (t .level v +ℤ pos 1) f none
 
-  planted : (f : ℕ) → Planted t (d f) z v f (level t v +ℤ pos 1)
-  planted f = step-planted (site-step site f none)
+  pub step : (f : ℕ) → JoinStep (t .layer) (d f .layer) z v (h site)
+  step f = plan-step (q .fit) site (t .level v +ℤ pos 1) f none
+
+  planted : (f : ℕ) → Planted (t .layer) (d f .layer) z v
+  planted f = step-planted (step f)
+
+  pub marked : (f : ℕ) → Marked t (d f) z f (t .level v +ℤ pos 1)
+  marked f = record {
+    old = λ x o. record {
+      sameLabel = kept-label (q .fit) site (t .level v +ℤ pos 1) f none x (o .other);
+      sameLevel = kept-level (q .fit) site (t .level v +ℤ pos 1) f none x (o .other);
+    };
+    labelIs = mark-label (q .fit) site (t .level v +ℤ pos 1) f none;
+    levelIs = mark-level (q .fit) site (t .level v +ℤ pos 1) f none;
+  }
+
+  pub root-rest : (f : ℕ) (y : ℕ) → y < n → y ≢ z → d f .root y ≡ fieldAt (p .fields) y rootPlace
+  root-rest f y l e = plan-roots (q .fit) site (t .level v +ℤ pos 1) f none (inl refl) y (omega (arith, q .room)) e
+      ∙ put-other (λ x. fieldAt (p .fields) x rootPlace) none z y (λ e. omega (arith, q .room, q .fit .most))
+
+  abbrev pub partsAfter : ℕ → Parts
+  partsAfter f = joinedParts (q .fit) site (t .level v +ℤ pos 1) f none
+
+  pub fits-after : (f : ℕ) → Fits c (partsAfter f)
+  fits-after f = plan-fits (q .fit) site (t .level v +ℤ pos 1) f none
 
   -- what it stores
-  pub stores : (f : ℕ) → joinedUnder p n z v f ≡ stored (joinedParts site f none) (rows (d f) (h site f none))
-  unfolding joinedUnder storedAs
-  stores f = rw (level-planned site f none, row-planned site f none) (site-stored site f none)
+  pub stores : (f : ℕ) → joinedUnder p n z v f ≡ stored (partsAfter f) (rows (d f .layer) (h site))
+  unfolding joinedUnder plannedStored
+  stores f = rw (level-planned, row-planned (q .fit) site (t .level v +ℤ pos 1) f none) (plan-stored (q .fit) site (t .level v +ℤ pos 1) f none)
 
-  pub row-stores : (x door : ℕ) → joinRow p n x door z ≡ stored (joinedParts site (pick (eqb z x) door (own z)) none)
-      (rows (d (pick (eqb z x) door (own z))) (h site (pick (eqb z x) door (own z)) none))
+  pub row-stores : (x door : ℕ) → joinRow p n x door z ≡ stored (partsAfter (pick (eqb z x) door (own z)))
+      (rows (d (pick (eqb z x) door (own z)) .layer) (h site))
   unfolding joinRow
   row-stores x door = rw (q .named z (inl refl), q .labels z (inl refl)) (stores (pick (eqb z x) door (own z)))
 
   -- the others wait on
-  pub waits-on : (f : ℕ) → Waits c (joinedParts site f none) n target own zs
+  pub waits-on : (f : ℕ) → Waits c (partsAfter f) n target own zs
   waits-on f =
       let k = planted f in
       let other : (w : ℕ) → Member zs w → w ≢ z = λ w m e. once .0 (rw e at m) in
       let old : (w : ℕ) → w < n → w ≢ z → Old n z w = λ w l e. record { inside = l; other = e } in
-      let levels-at : (y : ℕ) → y < n → natAbs (level (d f) y) ≤ levelLimit = λ y l. elim (old-or z y l) [
-        | inl o ↦ rw (k .old y o .sameLevel) (q .levels y l)
-        | inr e ↦ rw (e, k .new .levelIs) level-low
-      ] in
+      let e = marked f in
       record {
-        fit = site-fits site f none;
+        fit = fits-after f;
         room = q .room;
-        was = join-keeps (q .was) (site-step site f none);
+        was = join-keeps (q .was) (step f);
         alone = λ w m. let a = q .alone w (inr m) in record {
           inside = a .inside;
           top = k .old w (old w (a .inside) (other w m)) .sameParent ∙ a .top;
           bare = λ y l e. elim (old-or z y l) [
             | inl o ↦ a .bare y l (sym (k .old y o .sameParent) ∙ e)
-            | inr i ↦ before .0 (inr (rw (sym (k .new .parentIs) ∙ ap (parent (d f)) (sym i) ∙ e) m))
+            | inr i ↦ before .0 (inr (rw (sym (k .new .parentIs) ∙ ap (parent (d f .layer)) (sym i) ∙ e) m))
           ];
         };
-        named = λ w m. let l = q .alone w (inr m) .inside in
-            site-roots site f none (inl refl) w (omega (arith, q .room)) (other w m)
-            ∙ put-other (λ x. fieldAt (p .fields) x rootPlace) none z w (λ e. omega (arith, q .room, q .fit .most)) ∙ q .named w (inr m);
+        named = λ w m. root-rest f w (q .alone w (inr m) .inside) (other w m) ∙ q .named w (inr m);
         under = λ w m. q .under w (inr m);
-        labels = λ w m. k .old w (old w (q .alone w (inr m) .inside) (other w m)) .sameLabel ∙ q .labels w (inr m);
-        levels = levels-at;
+        labels = λ w m. e .old w (old w (q .alone w (inr m) .inside) (other w m)) .sameLabel ∙ q .labels w (inr m);
         shallow = λ y l i. elim (old-or z y l) [
-          | inl o ↦ rw (k .old y o .sameLevel, k .old y o .sameDepth) (q .shallow y l (λ m. elim m [ inl e ↦ o .other e | inr j ↦ i j ]))
-          | inr e ↦ rw (e, k .new .levelIs, k .new .depthIs, +ℤ-one) (omega (arith, abs-suc (level t v), q .shallow v (over .inside) (before .0)))
+          | inl o ↦ rw (e .old y o .sameLevel, k .old y o .sameDepth) (q .shallow y l (λ m. elim m [ inl a ↦ o .other a | inr j ↦ i j ]))
+          | inr a ↦ rw (a, e .levelIs, k .new .depthIs, +ℤ-one) (omega (arith, abs-suc (t .level v), q .shallow v (over .inside) (before .0)))
         ];
       }
 
@@ -156,11 +177,9 @@ unfolding joinAll
 joins-exact x door [] q once before = record { fits = q .fit; joins = done; roots = λ y l i. refl }
 joins-exact {c} {n} {target} {own} x door (z ∷ zs) {p} q once before =
     let f : ℕ = pick (eqb z x) door (own z) in
-    let s = site q once before in
     let rest = joins-exact x door zs (waits-on q once before f) (once .1) (before .1) in
     rw (row-stores q once before x door) record {
       fits = rest .fits;
-      joins = next (site-step s f none) (rest .joins);
-      roots = λ y l i. rest .roots y l (λ m. i (inr m)) ∙ site-roots s f none (inl refl) y (omega (arith, q .room)) (λ e. i (inl e))
-          ∙ put-other (λ w. fieldAt (p .fields) w rootPlace) none z y (λ e. omega (arith, q .room, q .fit .most));
+      joins = next (step q once before f) (marked q once before f) (rest .joins);
+      roots = λ y l i. rest .roots y l (λ m. i (inr m)) ∙ root-rest q once before f y l (λ e. i (inl e));
     }

@@ -5,23 +5,23 @@ use mathlib.Core.Logic.{_≢_}
 use mathlib.Core.List.{List}
 use Prim.Native.Nat.{ℕ, _<_}
 use native.Mathlib.Decide.{ℕ-discrete}
-use native.Mathlib.Omega.{arith}
 use Rattle.laws.specs.Test.{says-true, says-false, says-eqb}
 use Rattle.tree_laws.specs.Ancestor.{none}
 use Rattle.tree_laws.specs.ChildLinks.{Chain, end, link, Member}
 use Rattle.tree_laws.specs.Join.{Alone}
-use Rattle.tree_laws.specs.SizeDepth.{depth-below}
-use Rattle.rows.specs.Layout.{rootPlace}
-use Rattle.rows.specs.Row.{Parts, fieldAt}
-use Rattle.rows.specs.Capacity.{Fits}
-use Rattle.rows.specs.Table.{Table, tableOf, parent, label, level}
-use Rattle.rows.specs.PlainTree.{first}
-use Rattle.rows.specs.Rules.{Rules, Numbered, numbered}
-use Rattle.numbering.specs.Numbered.{shape}
-use Rattle.numbering.specs.LevelLaws.{plain-tree, parent-in}
-use Rattle.numbering.specs.SoundRows.{level-depth}
-use Rattle.growth_laws.specs.Lone.{Lone, Parted}
-use Rattle.growth_laws.specs.LoneLaws.{parted-numbered}
+use Rattle.table.specs.Layout.{rootPlace}
+use Rattle.table.specs.Parts.{Parts}
+use Rattle.layer.specs.Row.{fieldAt}
+use Rattle.table.specs.Capacity.{Fits}
+use Rattle.table.specs.Table.{Table, tableOf}
+use Rattle.layer.specs.Layer.{Layer, parent}
+use Rattle.layer.specs.StoredTree.{first}
+use Rattle.table.specs.Rules.{Rules, numbered}
+use Rattle.layer.specs.Numbered.{Numbered}
+use Rattle.table_laws.specs.LevelLaws.{plain-tree, parent-in}
+use Rattle.table_laws.specs.LevelBounds.{level-depth}
+use Rattle.join_laws.specs.Lone.{Lone, Parted}
+use Rattle.join_laws.specs.LoneLaws.{parted-numbered}
 use Rattle.link_laws.specs.Link.{target, labelled, Linkable, Linked}
 use Rattle.link_laws.specs.Order.{isOfTree, Order}
 use Rattle.link_laws.specs.OrderLaws.{linkOrder, link-ordered, order-once, order-before, some, in-x}
@@ -31,22 +31,22 @@ use Rattle.link_exact.specs.JoinsExact.{Waits, Joined, joins-exact}
 -- p₁ holds p with the rows of the tree of x standing alone, each with its target in its root field
 pub record Detached (c : ℕ) (p p₁ : Parts) (n x v : ℕ) : Type 0 where
   pub fit : Fits c p₁
-  pub parted : Parted (tableOf p n) (tableOf p₁ n) (isOfTree (tableOf p n) x)
-  pub named : (w : ℕ) → w < n → first (tableOf p n) w ≡ first (tableOf p n) x → fieldAt (p₁ .fields) w rootPlace ≡ target (tableOf p n) x v w
-  pub roots : (w : ℕ) → w < n → first (tableOf p n) w ≢ first (tableOf p n) x → fieldAt (p₁ .fields) w rootPlace ≡ fieldAt (p .fields) w rootPlace
-  pub labels : (w : ℕ) → w < n → label (tableOf p₁ n) w ≡ label (tableOf p n) w
-  pub levels : (w : ℕ) → w < n → level (tableOf p₁ n) w ≡ level (tableOf p n) w
+  pub parted : Parted (tableOf p n .layer) (tableOf p₁ n .layer) (isOfTree (tableOf p n .layer) x)
+  pub named : (w : ℕ) → w < n → first (tableOf p n .layer) w ≡ first (tableOf p n .layer) x → fieldAt (p₁ .fields) w rootPlace ≡ target (tableOf p n) x v w
+  pub roots : (w : ℕ) → w < n → first (tableOf p n .layer) w ≢ first (tableOf p n .layer) x → fieldAt (p₁ .fields) w rootPlace ≡ fieldAt (p .fields) w rootPlace
+  pub labels : (w : ℕ) → w < n → tableOf p₁ n .label w ≡ tableOf p n .label w
+  pub levels : (w : ℕ) → w < n → tableOf p₁ n .level w ≡ tableOf p n .level w
 
 -- a row that stands alone is nobody's parent
 no-member : {next : ℕ → ℕ} {c : ℕ} {xs : List ℕ} (w : ℕ) → Chain next c xs → c ≡ none → Member xs w → ⊥
 no-member w (end e) z m = m
 no-member w (link d p) z m = d z
 
-lone-alone : {d : Table} {w : ℕ} → Numbered d → w < d .count → Lone d w → Alone (parent d) (d .count) w
+lone-alone : {d : Layer} {w : ℕ} → Numbered d → w < d .count → Lone d w → Alone (parent d) (d .count) w
 lone-alone {d} {w} r l k = record {
   inside = l;
   top = k .parentNone;
-  bare = λ y i e. let c = r .children w l in no-member y (c .chain) (k .firstNone) (c .all y record { inUse = i; parent = e });
+  bare = λ y i e. let c = r .one .children w l in no-member y (c .chain) (k .firstNone) (c .all y record { inUse = i; parent = e });
 }
 
 module _ {c : ℕ} {p p₁ : Parts} {n x v door : ℕ} (r : Rules c (tableOf p n)) (fit : Fits c p) (h : Linkable (tableOf p n) x v door) (k : Detached c p p₁ n x v) where
@@ -56,38 +56,37 @@ module _ {c : ℕ} {p p₁ : Parts} {n x v door : ℕ} (r : Rules c (tableOf p n
   abbrev t₁ : Table
   t₁ = tableOf p₁ n
 
-  num : Numbered t
+  num : Numbered (t .layer)
   num = numbered r (fit .most)
 
-  num₁ : Numbered t₁
+  num₁ : Numbered (t₁ .layer)
   num₁ = parted-numbered num (k .parted)
 
   order : Order t x (linkOrder t x)
   order = link-ordered r (fit .most) h
 
-  moved : (w : ℕ) → first t w ≡ first t x → isOfTree t x w ≡ true
-  moved w e = says-true (says-eqb (first t w) (first t x)) e
+  moved : (w : ℕ) → first (t .layer) w ≡ first (t .layer) x → isOfTree (t .layer) x w ≡ true
+  moved w e = says-true (says-eqb (first (t .layer) w) (first (t .layer) x)) e
 
-  target-in : (w : ℕ) → w < n → first t w ≡ first t x → target t x v w < n
+  target-in : (w : ℕ) → w < n → first (t .layer) w ≡ first (t .layer) x → target t x v w < n
   target-in w l e = elim (ℕ-discrete w x) [
     | yes z ↦ rw (says-true (says-eqb w x) z) (h .over)
     | no d ↦ rw (says-false (says-eqb w x) d, plain-tree r (fit .most) (in-x r (fit .most) h l e))
         (parent-in r (fit .most) (in-x r (fit .most) h l e) (some r (fit .most) h l e d) .inUse)
   ]
 
-  waits : Waits c p₁ n (target t x v) (label t) (linkOrder t x)
+  waits : Waits c p₁ n (target t x v) (t .label) (linkOrder t x)
   waits = record {
     fit = k .fit;
-    room = r .one .count;
+    room = r .one .trees .count;
     was = num₁;
     alone = λ w m. let l = order .inside w m in lone-alone num₁ l (k .parted .alone w l (moved w (order .moved w m)));
     named = λ w m. k .named w (order .inside w m) (order .moved w m);
     under = λ w m. target-in w (order .inside w m) (order .moved w m);
     labels = λ w m. k .labels w (order .inside w m);
-    levels = λ y l. rw (k .levels y l) (omega (arith, level-depth r (fit .most) y l, depth-below (shape num) y l, num .count));
-    shallow = λ y l i. elim (ℕ-discrete (first t y) (first t x)) [
+    shallow = λ y l i. elim (ℕ-discrete (first (t .layer) y) (first (t .layer) x)) [
       | yes e ↦ absurd (i (order .all y l e))
-      | no d ↦ rw (k .levels y l, k .parted .kept y l (says-false (says-eqb (first t y) (first t x)) d) .sameDepth) (level-depth r (fit .most) y l)
+      | no d ↦ rw (k .levels y l, k .parted .kept y l (says-false (says-eqb (first (t .layer) y) (first (t .layer) x)) d) .sameDepth) (level-depth r (fit .most) y l)
     ];
   }
 

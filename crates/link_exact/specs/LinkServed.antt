@@ -10,24 +10,25 @@ use borrow.Author.Tests.{ne-eqb, le-leb}
 use lib.Dec.{eqb, ltb}
 use Rattle.laws.specs.Test.{Says, holds, fails, says-true, says-ltb, says-get}
 use Rattle.tree_laws.specs.Ancestor.{none}
-use Rattle.rows.specs.declared.refusal.Refusal.{Refusal}
-use Rattle.rows.specs.declared.refusal.Refusal.the-variants.{UnknownNode, Misfit, Corrupt, BadLabel, NotRoot, SameTree}
-use Rattle.rows.specs.declared.state.State.{State}
-use Rattle.rows.specs.Capacity.{Fits}
-use Rattle.rows.specs.CapacityLaws.{fits-told}
-use Rattle.rows.specs.PlainTree.{first, root}
-use Rattle.rows.specs.Row.{Parts}
-use Rattle.rows.specs.Rules.{Rules, numbered}
-use Rattle.rows.specs.State.{isStanding}
-use Rattle.rows.specs.StateLaws.{says-standing}
-use Rattle.rows.specs.Table.{Table, tableOf}
-use Rattle.rows.specs.Tree.{treeAt, rootAt}
-use Rattle.numbering.specs.Numbered.{in-tree, first-in}
-use Rattle.numbering.specs.Lines.{root-in}
-use Rattle.numbering.specs.TreeTests.{tree-is, root-is, same-tree, tree-same}
-use Rattle.inspect_laws.specs.Exact.{inspect-exact}
-use Rattle.inspect_laws.specs.Inspects.{inspects}
-use Rattle.growth_laws.specs.Lag.{lag, worth, perJoin}
+use Rattle.table.specs.declared.refusal.Refusal.{Refusal}
+use Rattle.table.specs.declared.refusal.Refusal.the-variants.{UnknownNode, Misfit, Corrupt, BadLabel, NotRoot, SameTree}
+use Rattle.table.specs.declared.state.State.{State}
+use Rattle.table.specs.Capacity.{Fits}
+use Rattle.table.specs.CapacityLaws.{fits-told}
+use Rattle.layer.specs.StoredTree.{first}
+use Rattle.table.specs.PlainTree.{root}
+use Rattle.table.specs.Parts.{Parts}
+use Rattle.table.specs.Rules.{Rules, numbered}
+use Rattle.table.specs.State.{isStanding}
+use Rattle.table.specs.StateLaws.{says-standing}
+use Rattle.table.specs.Table.{Table, tableOf}
+use Rattle.table.specs.Tree.{treeAt, rootAt}
+use Rattle.layer_laws.specs.Numbered.{in-tree, first-in}
+use Rattle.table_laws.specs.Lines.{root-in}
+use Rattle.table_laws.specs.TreeTests.{tree-is, root-is, same-tree, tree-same}
+use Rattle.inspect_exact.specs.Exact.{inspect-exact}
+use Rattle.inspect.specs.Inspects.{inspects}
+use Rattle.join_laws.specs.Lag.{lag, worth, perJoin}
 use Rattle.growth.specs.Plan.{isLabel}
 use Rattle.link_laws.specs.Link.{Linkable, Linked, PlainLink}
 use Rattle.link_laws.specs.LinkLaws.{link-keeps-rules, link-plain, link-pays}
@@ -35,19 +36,19 @@ use Rattle.link_laws.specs.Order.{treeRows}
 use Rattle.link.specs.declared.check.Checked.{Checked}
 use Rattle.link.specs.declared.check.Checked.the-variants.{Serve, Refuse}
 use Rattle.link.specs.CheckLaws.{check-scratch, check-x, check-v, check-label, check-not-root, check-same, check-inspect, check-serve}
-use Rattle.link.specs.Outcome.{refusal, refused, under}
+use Rattle.link.specs.Outcome.{refusal, refused, linked as treeLinked}
 use Rattle.link.specs.Link.{Result, result, provided, linkWithin, linkChecked, joinedTree, servedBy, linkedBy, linkBy}
 use Rattle.link_exact.specs.TreeJoined.{after, renumbered, tree-linked, tree-fits, tree-joined}
 
 -- a link that was served, told by its outcome
 pub record LinkedExactly (c : ℕ) (p : Parts) (s : State) (x v door : ℕ) (o : Result) : Type 0 where
   pub rows : ℕ
-  pub answered : o .outcome ≡ under rows
+  pub answered : o .outcome ≡ treeLinked rows
   pub fits : Fits c (o .parts)
   pub linked : Linked (tableOf p (s .count)) (tableOf (o .parts) (s .count)) x v door rows
   pub rules : Rules c (tableOf (o .parts) (s .count))
   pub plain : PlainLink (tableOf p (s .count)) (tableOf (o .parts) (s .count)) x v door
-  pub pays : worth * lag (tableOf (o .parts) (s .count)) + rows ≤ worth * lag (tableOf p (s .count)) + perJoin * treeRows (tableOf p (s .count)) x
+  pub pays : worth * lag (tableOf (o .parts) (s .count) .layer) + rows ≤ worth * lag (tableOf p (s .count) .layer) + perJoin * treeRows (tableOf p (s .count) .layer) x
 
 -- by what was decided
 by-refusal : (p : Parts) (scratch : ℕ) (s : State) (x v door : ℕ) {why : Refusal} → Refuse why ≡ linkChecked p scratch s x v door
@@ -91,18 +92,18 @@ module _ {c : ℕ} (p : Parts) (scratch : ℕ) (s : State) (x v door : ℕ) (fit
 
 module _ {c : ℕ} (p : Parts) (s : State) (fit : Fits c p) (r : Rules c (tableOf p (s .count))) where
   standing : isStanding c s ≡ true
-  standing = says-true (says-standing c s) (r .one .count)
+  standing = says-true (says-standing c s) (r .one .trees .count)
 
   root-read : {x : ℕ} → x < s .count → rootAt (p .fields) (p .ancestors) (s .count) x ≡ root (tableOf p (s .count)) x
   root-read {x} l = root-is p (s .count) r (fit .most) x l
 
   root-some : {x : ℕ} → x < s .count → rootAt (p .fields) (p .ancestors) (s .count) x ≢ none
-  root-some {x} l e = omega (arith, sym (root-read l) ∙ e, root-in r (fit .most) (in-tree (numbered r (fit .most)) x l) .inUse, r .one .count, fit .most)
+  root-some {x} l e = omega (arith, sym (root-read l) ∙ e, root-in r (fit .most) (in-tree (numbered r (fit .most)) x l) .inUse, r .one .trees .count, fit .most)
 
   tree-some : {v : ℕ} → v < s .count → treeAt (p .ancestors) (s .count) v ≢ none
   tree-some {v} l e =
       let i = in-tree (numbered r (fit .most)) v l in
-      omega (arith, sym (tree-is p (s .count) r (fit .most) i) ∙ e, first-in (numbered r (fit .most)) i, r .one .count, fit .most)
+      omega (arith, sym (tree-is p (s .count) r (fit .most) i) ∙ e, first-in (numbered r (fit .most)) i, r .one .trees .count, fit .most)
 
 module _ {c : ℕ} (p : Parts) (scratch : ℕ) (s : State) (x v door : ℕ) (fit : Fits c p) (r : Rules c (tableOf p (s .count))) (same : scratch ≡ c) where
   abbrev t : Table
@@ -113,7 +114,7 @@ module _ {c : ℕ} (p : Parts) (scratch : ℕ) (s : State) (x v door : ℕ) (fit
     link-not-root d = by-refusal p scratch s x v door (check-not-root p scratch s x v door c (sym (fits-told fit)) same inX inV label (standing p s fit r) (root-some p s fit r inX)
         (λ e. d (sym (root-read p s fit r inX) ∙ e)))
 
-    pub link-same-tree : root t x ≡ x → first t v ≡ first t x → linkBy p scratch s x v door ≡ result p (refused SameTree)
+    pub link-same-tree : root t x ≡ x → first (t .layer) v ≡ first (t .layer) x → linkBy p scratch s x v door ≡ result p (refused SameTree)
     link-same-tree e i = by-refusal p scratch s x v door (check-same p scratch s x v door c (sym (fits-told fit)) same inX inV label (standing p s fit r) (root-some p s fit r inX)
         (root-read p s fit r inX ∙ e) (tree-some p s fit r inV) (tree-same p (s .count) r (fit .most) v x inV inX i))
 
@@ -121,7 +122,7 @@ module _ {c : ℕ} (p : Parts) (scratch : ℕ) (s : State) (x v door : ℕ) (fit
     label-is : isLabel door ≡ true
     label-is = rw (le-leb 1 door (h .least)) (le-leb door _ (h .most))
 
-    checked : Serve (first t x) ≡ linkChecked p scratch s x v door
+    checked : Serve (first (t .layer) x) ≡ linkChecked p scratch s x v door
     checked =
         let k = check-serve p scratch s x v door c (sym (fits-told fit)) same (h .inUse) (h .over) label-is (standing p s fit r) (root-some p s fit r (h .inUse)) (root-read p s fit r (h .inUse) ∙ h .isRoot)
         (tree-some p s fit r (h .over)) (λ e. h .other (same-tree p (s .count) r (fit .most) v x (h .over) (h .inUse) e))
@@ -131,7 +132,7 @@ module _ {c : ℕ} (p : Parts) (scratch : ℕ) (s : State) (x v door : ℕ) (fit
     abbrev d : Parts
     d = after r fit h
 
-    served : linkBy p scratch s x v door ≡ result d (under (renumbered r fit h))
+    served : linkBy p scratch s x v door ≡ result d (treeLinked (renumbered r fit h))
     unfolding servedBy
     served = by-serving p scratch s x v door checked ∙ rw (same, tree-joined r fit h) refl
 

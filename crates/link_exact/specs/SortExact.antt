@@ -15,18 +15,20 @@ use Rattle.tree_laws.specs.Ancestor.{none}
 use Rattle.tree_laws.specs.ChildLinks.{Chain}
 use Rattle.tree_laws.specs.Chains.{chain-copy}
 use Rattle.tree_laws.specs.SizeDepth.{depth-below}
-use Rattle.rows.specs.Capacity.{Fits}
-use Rattle.rows.specs.Row.{Parts, levelAt, entryAt}
-use Rattle.rows.specs.Rules.{Rules, Numbered, numbered}
-use Rattle.rows.specs.Sound.{isLevel, levelLimit}
-use Rattle.rows.specs.Table.{Table, tableOf, level}
-use Rattle.rows.specs.Layout.{treePlace}
-use Rattle.rows.specs.PlainTree.{first}
-use Rattle.numbering.specs.LevelLaws.{level-root}
-use Rattle.numbering.specs.Numbered.{shape, InTree}
-use Rattle.numbering.specs.SoundRows.{level-depth}
-use Rattle.numbering.specs.TreeEntry.{entry-first}
-use Rattle.renumbering.specs.Column.{put, put-same, put-other}
+use Rattle.table.specs.Capacity.{Fits}
+use Rattle.table.specs.Parts.{Parts, levelAt}
+use Rattle.layer.specs.Row.{entryAt}
+use Rattle.table.specs.Rules.{Rules, numbered}
+use Rattle.layer.specs.Numbered.{Numbered}
+use Rattle.table.specs.Level.{isLevel, levelLimit}
+use Rattle.table.specs.Table.{Table, tableOf}
+use Rattle.layer.specs.Layout.{treePlace}
+use Rattle.layer.specs.StoredTree.{first}
+use Rattle.table_laws.specs.LevelLaws.{level-root}
+use Rattle.layer_laws.specs.Numbered.{shape, InTree}
+use Rattle.table_laws.specs.LevelBounds.{level-depth}
+use Rattle.layer_laws.specs.TreeEntry.{entry-first}
+use Rattle.renumber_laws.specs.Column.{put, put-same, put-other}
 use Rattle.link.specs.Sort.{depthBelow, cellAt, Sorted, sorted, putFront, placedRow, placedRows, sortedRows}
 use Rattle.link_laws.specs.Buckets.{Buckets, placed, sorted as sortedTo, sorted-levels}
 use Rattle.link_laws.specs.Levels.{levelOf, level-of}
@@ -94,24 +96,24 @@ module _ {c : ℕ} {p : Parts} {n x v door : ℕ} (r : Rules c (tableOf p n)) (f
   abbrev t : Table
   t = tableOf p n
 
-  num : Numbered t
+  num : Numbered (t .layer)
   num = numbered r (fit .most)
 
   small : n ≤ none
-  small = omega (arith, num .count)
+  small = omega (arith, num .one .count)
 
-  is-level : (w : ℕ) → w < n → isLevel (level t w) ≡ true
-  is-level w l = le-leb (natAbs (level t w)) levelLimit (omega (arith, level-depth r (fit .most) w l, depth-below (shape num) w l, num .count))
+  is-level : (w : ℕ) → w < n → isLevel (t .level w) ≡ true
+  is-level w l = le-leb (natAbs (t .level w)) levelLimit (omega (arith, level-depth r (fit .most) w l, depth-below (shape num) w l, num .one .count))
 
-  key-is : (w : ℕ) → w < n → isOfTree t x w ≡ true → depthBelow (level t x) (level t w) ≡ depthUnder t x w
+  key-is : (w : ℕ) → w < n → isOfTree (t .layer) x w ≡ true → depthBelow (t .level x) (t .level w) ≡ depthUnder t x w
   unfolding depthBelow
   key-is w l e =
-      let i : InTree t (first t x) w = in-x r (fit .most) h l (moved-get r (fit .most) h w e) in
-      let k : level t w ≡ level t x +ℤ pos (depthUnder t x w) = level-root r (fit .most) w i ∙ ap (λ (y : ℕ). level t y +ℤ pos (depthUnder t x w)) (h .isRoot) in
-      let d : level t w -ℤ level t x ≡ pos (depthUnder t x w) = rw (k, +ℤ-comm (level t x) (pos (depthUnder t x w))) (+ℤ-negℤ-cancel (pos (depthUnder t x w)) (level t x)) in
+      let i : InTree (t .layer) (first (t .layer) x) w = in-x r (fit .most) h l (moved-get r (fit .most) h w e) in
+      let k : t .level w ≡ t .level x +ℤ pos (depthUnder t x w) = level-root r (fit .most) w i ∙ ap (λ (y : ℕ). t .level y +ℤ pos (depthUnder t x w)) (h .isRoot) in
+      let d : t .level w -ℤ t .level x ≡ pos (depthUnder t x w) = rw (k, +ℤ-comm (t .level x) (pos (depthUnder t x w))) (+ℤ-negℤ-cancel (pos (depthUnder t x w)) (t .level x)) in
       rw (is-level x (h .inUse), is-level w l, d) refl
 
-  pub tree-lists : (d : ℕ) → d < n → Chain (cellAt (sortedRows c (p .levels) (p .ancestors) n (first t x) (level t x) .links))
-      (cellAt (sortedRows c (p .levels) (p .ancestors) n (first t x) (level t x) .heads) d) (levelOf (isOfTree t x) (depthUnder t x) n d)
-  tree-lists = sort-lists (r .one .count) (p .levels) (p .ancestors) (first t x) (level t x) (isOfTree t x) (depthUnder t x)
-      (λ w l. ap (λ (y : ℕ). eqb y (first t x)) (entry-first num w l)) key-is (λ w l e. omega (arith, depth-below (deep r (fit .most) h) w l, r .one .count)) small
+  pub tree-lists : (d : ℕ) → d < n → Chain (cellAt (sortedRows c (p .levels) (p .ancestors) n (first (t .layer) x) (t .level x) .links))
+      (cellAt (sortedRows c (p .levels) (p .ancestors) n (first (t .layer) x) (t .level x) .heads) d) (levelOf (isOfTree (t .layer) x) (depthUnder t x) n d)
+  tree-lists = sort-lists (r .one .trees .count) (p .levels) (p .ancestors) (first (t .layer) x) (t .level x) (isOfTree (t .layer) x) (depthUnder t x)
+      (λ w l. ap (λ (y : ℕ). eqb y (first (t .layer) x)) (entry-first num w l)) key-is (λ w l e. omega (arith, depth-below (deep r (fit .most) h) w l, r .one .trees .count)) small

@@ -1,1 +1,1 @@
-// On every table that passes inspection the code's link is the link by meaning: no code.
+// Laws only: on every table that passes inspection the code's link is the link by meaning.

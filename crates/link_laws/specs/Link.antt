@@ -5,10 +5,12 @@ use mathlib.Core.List.{List}
 use Prim.Native.Nat.{ℕ, _≤_, _<_}
 use lib.Dec.{eqb}
 use Rattle.laws.specs.Test.{pick}
-use Rattle.rows.specs.Table.{Table, parent, label, level}
-use Rattle.rows.specs.PlainTree.{first, root, plain}
-use Rattle.rows.specs.StoredTree.{labelLimit}
-use Rattle.growth_laws.specs.Lone.{Parted}
+use Rattle.layer.specs.Layer.{parent}
+use Rattle.layer.specs.StoredTree.{first}
+use Rattle.table.specs.Table.{Table}
+use Rattle.table.specs.PlainTree.{root, plain}
+use Rattle.table.specs.Rules.{labelLimit}
+use Rattle.join_laws.specs.Lone.{Parted}
 use Rattle.link_laws.specs.Joinings.{Joinings}
 use Rattle.link_laws.specs.Order.{isOfTree, Order}
 
@@ -18,14 +20,14 @@ target t x v w = pick (eqb w x) v (plain t w)
 
 -- its label: its own, and the door's for the linked root
 abbrev pub labelled : Table → ℕ → ℕ → ℕ → ℕ
-labelled t x door w = pick (eqb w x) door (label t w)
+labelled t x door w = pick (eqb w x) door (t .label w)
 
 -- x is the root of its tree, v a row of another one, and `door`, the label that a linked root takes, goes from 1 to 9,999
 pub record Linkable (t : Table) (x v door : ℕ) : Type 0 where
-  pub inUse : x < t .count
+  pub inUse : x < t .layer .count
   pub isRoot : root t x ≡ x
-  pub over : v < t .count
-  pub other : first t v ≢ first t x
+  pub over : v < t .layer .count
+  pub other : first (t .layer) v ≢ first (t .layer) x
   pub least : 1 ≤ door
   pub most : door ≤ labelLimit
 
@@ -33,24 +35,24 @@ pub record Linkable (t : Table) (x v door : ℕ) : Type 0 where
 pub record Linked (t d : Table) (x v door k : ℕ) : Type 0 where
   pub linkable : Linkable t x v door
   pub apart : Table
-  pub count : apart .count ≡ t .count
-  pub parted : Parted t apart (isOfTree t x)
-  pub labels : (w : ℕ) → w < t .count → label apart w ≡ label t w
-  pub levels : (w : ℕ) → w < t .count → first t w ≢ first t x → level apart w ≡ level t w
+  pub count : apart .layer .count ≡ t .layer .count
+  pub parted : Parted (t .layer) (apart .layer) (isOfTree (t .layer) x)
+  pub labels : (w : ℕ) → w < t .layer .count → apart .label w ≡ t .label w
+  pub levels : (w : ℕ) → w < t .layer .count → first (t .layer) w ≢ first (t .layer) x → apart .level w ≡ t .level w
   pub order : List ℕ
   pub ordered : Order t x order
   pub joins : Joinings (target t x v) (labelled t x door) apart d order k
-  pub roots : (f : ℕ) → f < t .count → first t f ≢ first t x → d .root f ≡ t .root f
+  pub roots : (f : ℕ) → f < t .layer .count → first (t .layer) f ≢ first (t .layer) x → d .root f ≡ t .root f
 
 -- the rows of the linked tree are stored under their targets, the others where they were
 pub record StoredLink (t d : Table) (x v : ℕ) : Type 0 where
-  pub moved : (w : ℕ) → w < t .count → first t w ≡ first t x → parent d w ≡ target t x v w
-  pub rest : (w : ℕ) → w < t .count → first t w ≢ first t x → parent d w ≡ parent t w
+  pub moved : (w : ℕ) → w < t .layer .count → first (t .layer) w ≡ first (t .layer) x → parent (d .layer) w ≡ target t x v w
+  pub rest : (w : ℕ) → w < t .layer .count → first (t .layer) w ≢ first (t .layer) x → parent (d .layer) w ≡ parent (t .layer) w
 
 -- the plain trees of d are those of t, but that x comes under v and takes the door's label
 pub record PlainLink (t d : Table) (x v door : ℕ) : Type 0 where
-  pub count : d .count ≡ t .count
+  pub count : d .layer .count ≡ t .layer .count
   pub under : plain d x ≡ v
-  pub parents : (w : ℕ) → w < t .count → w ≢ x → plain d w ≡ plain t w
-  pub labelled : label d x ≡ door
-  pub labels : (w : ℕ) → w < t .count → w ≢ x → label d w ≡ label t w
+  pub parents : (w : ℕ) → w < t .layer .count → w ≢ x → plain d w ≡ plain t w
+  pub labelled : d .label x ≡ door
+  pub labels : (w : ℕ) → w < t .layer .count → w ≢ x → d .label w ≡ t .label w

@@ -8,15 +8,17 @@ use lib.Dec.{eqb}
 use Rattle.laws.specs.Sum.{countTo}
 use Rattle.tree_laws.specs.ChildLinks.{Member}
 use Rattle.tree_laws.specs.Depth.{Steps}
-use Rattle.rows.specs.Table.{Table}
-use Rattle.rows.specs.PlainTree.{first, plain}
+use Rattle.layer.specs.Layer.{Layer}
+use Rattle.layer.specs.StoredTree.{first}
+use Rattle.table.specs.Table.{Table}
+use Rattle.table.specs.PlainTree.{plain}
 
 -- row w stands in the tree of x
-abbrev pub isOfTree : Table → ℕ → ℕ → Bool
+abbrev pub isOfTree : Layer → ℕ → ℕ → Bool
 isOfTree t x w = eqb (first t w) (first t x)
 
 -- how many rows in use stand in the tree of x
-abbrev pub treeRows : Table → ℕ → ℕ
+abbrev pub treeRows : Layer → ℕ → ℕ
 treeRows t x = countTo (isOfTree t x) (t .count)
 
 -- row w comes before row y: it lies fewer steps below x in the plain tree, or as many and has the smaller number
@@ -34,7 +36,7 @@ Rises P (w ∷ ws) = ((y : ℕ) → Member ws y → P w y) × Rises P ws
 
 -- the list holds the rows of the tree of x, in their order
 pub record Order (t : Table) (x : ℕ) (zs : List ℕ) : Type 0 where
-  pub inside : (w : ℕ) → Member zs w → w < t .count
-  pub moved : (w : ℕ) → Member zs w → first t w ≡ first t x
-  pub all : (w : ℕ) → w < t .count → first t w ≡ first t x → Member zs w
+  pub inside : (w : ℕ) → Member zs w → w < t .layer .count
+  pub moved : (w : ℕ) → Member zs w → first (t .layer) w ≡ first (t .layer) x
+  pub all : (w : ℕ) → w < t .layer .count → first (t .layer) w ≡ first (t .layer) x → Member zs w
   pub rises : Rises (Precedes t x) zs

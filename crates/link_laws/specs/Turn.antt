@@ -9,7 +9,7 @@ use lib.Dec.{eqb}
 use Rattle.laws.specs.Test.{pick, says-true, says-false, says-eqb}
 use Rattle.tree_laws.specs.Ancestor.{none, Anc, here, there, Forest}
 use Rattle.tree_laws.specs.AncestorLaws.{cases, no-loop}
-use Rattle.renumbering.specs.Column.{put, put-same, put-other}
+use Rattle.renumber_laws.specs.Column.{put, put-same, put-other}
 
 -- from z up, at most fuel rows on: z comes under `under`, the row above z under z, and so on
 abbrev pub turnedUp : (ℕ → ℕ) → ℕ → (ℕ → ℕ) → ℕ → ℕ → ℕ → ℕ

@@ -1,1 +1,1 @@
-// A tree linked under a row of another tree, as a relation between tables: no code.
+// Laws only: a tree linked under a row of another tree, as a relation between tables.

@@ -8,7 +8,7 @@ use Rattle.tree_laws.specs.Ancestor.{none}
 use Rattle.plain_list.specs.PlainList.{emptyList, withNode, withLink}
 use Rattle.plain_list.specs.Naive.{naiveAnswer, naiveSame, naiveRoot}
 use Rattle.plain_list.specs.PlainStep.{PlainCall, first, leaf, root, rootOver, link, question, alike, inspection}
-use Rattle.plain_list.specs.PlainStep.{PlainReply, refused, node, linked, answered, same, passes, treeCount, plainOutcome, plainRun}
+use Rattle.plain_list.specs.PlainStep.{PlainReply, refusal, node, linked, answered, same, passes, treeCount, plainOutcome, plainRun}
 use Rattle.plain_list.specs.StoredList.{storedRun, storedBelow}
 
 -- an answer in the order of a printed line: nearest common ancestor, branches, distances, label
@@ -21,7 +21,7 @@ log = root 128 ∷ leaf 0 7 128 ∷ leaf 1 9 128 ∷ question 1 2 ∷ leaf 5 7 1
 
 -- the seven lines' numbers and answers; at the end node 3 is the root, over 0 over 1 over 2
 log-run : plainRun 128 emptyList log ≡ record {
-  replies = node 0 ∷ node 1 ∷ node 2 ∷ answer 1 1 2 0 1 7 ∷ refused 1 ∷ node 3 ∷ answer 3 0 3 3 0 0 ∷ [];
+  replies = node 0 ∷ node 1 ∷ node 2 ∷ answer 1 1 2 0 1 7 ∷ refusal 1 ∷ node 3 ∷ answer 3 0 3 3 0 0 ∷ [];
   last = record { parents = 3 ∷ 0 ∷ 1 ∷ none ∷ []; labels = 0 ∷ 7 ∷ 9 ∷ 0 ∷ [] };
   joinings = 4;
 }
@@ -46,9 +46,9 @@ full =
     alike 1 2 ∷ alike 3 4 ∷ alike 0 1 ∷ alike 0 0 ∷ alike 0 5 ∷ inspection 6 ∷ inspection 5 ∷ []
 
 full-run : plainRun 5 emptyList full .replies ≡
-    passes ∷ refused 1 ∷ refused 1 ∷ refused 3 ∷ node 0 ∷ refused 3 ∷ refused 1 ∷ refused 5 ∷ refused 5 ∷ node 1 ∷ node 2 ∷
-    node 3 ∷ node 4 ∷ refused 2 ∷ refused 1 ∷ refused 5 ∷ refused 2 ∷ refused 3 ∷ answer 0 1 2 2 2 0 ∷ answer 3 3 3 0 0 9999 ∷ answer 1 1 3 0 1 7 ∷ refused 1 ∷
-    same 1 ∷ same 0 ∷ same 0 ∷ same 1 ∷ refused 1 ∷ refused 3 ∷ passes ∷ []
+    passes ∷ refusal 1 ∷ refusal 1 ∷ refusal 3 ∷ node 0 ∷ refusal 3 ∷ refusal 1 ∷ refusal 5 ∷ refusal 5 ∷ node 1 ∷ node 2 ∷
+    node 3 ∷ node 4 ∷ refusal 2 ∷ refusal 1 ∷ refusal 5 ∷ refusal 2 ∷ refusal 3 ∷ answer 0 1 2 2 2 0 ∷ answer 3 3 3 0 0 9999 ∷ answer 1 1 3 0 1 7 ∷ refusal 1 ∷
+    same 1 ∷ same 0 ∷ same 0 ∷ same 1 ∷ refusal 1 ∷ refusal 3 ∷ passes ∷ []
 unfolding plainRun plainOutcome naiveAnswer naiveSame naiveRoot withNode
 full-run = refl
 
@@ -63,9 +63,9 @@ coupled =
 -- the linked trees count three and five nodes
 coupled-run : plainRun 6 emptyList coupled ≡ record {
   replies =
-      refused 1 ∷ node 0 ∷ node 1 ∷ node 2 ∷ node 3 ∷ refused 3 ∷ refused 12 ∷ refused 1 ∷ refused 12 ∷ refused 10 ∷ refused 3 ∷
-      node 4 ∷ refused 10 ∷ refused 10 ∷ refused 11 ∷ refused 11 ∷ refused 5 ∷ refused 1 ∷ refused 1 ∷ refused 3 ∷ refused 12 ∷
-      linked ∷ answer 1 4 1 3 0 7 ∷ same 0 ∷ refused 10 ∷ node 5 ∷ refused 2 ∷ refused 2 ∷ refused 10 ∷ refused 12 ∷ linked ∷ answer 5 0 5 5 0 0 ∷
+      refusal 1 ∷ node 0 ∷ node 1 ∷ node 2 ∷ node 3 ∷ refusal 3 ∷ refusal 12 ∷ refusal 1 ∷ refusal 12 ∷ refusal 10 ∷ refusal 3 ∷
+      node 4 ∷ refusal 10 ∷ refusal 10 ∷ refusal 11 ∷ refusal 11 ∷ refusal 5 ∷ refusal 1 ∷ refusal 1 ∷ refusal 3 ∷ refusal 12 ∷
+      linked ∷ answer 1 4 1 3 0 7 ∷ same 0 ∷ refusal 10 ∷ node 5 ∷ refusal 2 ∷ refusal 2 ∷ refusal 10 ∷ refusal 12 ∷ linked ∷ answer 5 0 5 5 0 0 ∷
       same 1 ∷ [];
   last = record { parents = 5 ∷ 0 ∷ 4 ∷ 2 ∷ 1 ∷ none ∷ []; labels = 3 ∷ 7 ∷ 0 ∷ 8 ∷ 9 ∷ 0 ∷ [] };
   joinings = 14;

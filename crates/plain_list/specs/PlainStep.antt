@@ -6,8 +6,7 @@ use lib.Dec.{leb, ltb, eqb}
 use Rattle.laws.specs.Test.{pick, bit}
 use Rattle.laws.specs.Sum.{countTo}
 use Rattle.tree_laws.specs.Ancestor.{none}
-use Rattle.rows.specs.StoredTree.{labelLimit}
-use Rattle.rows.specs.Answer.{Answer}
+use Rattle.tree_laws.specs.Answer.{Answer}
 use Rattle.plain_list.specs.PlainList.{PlainList, countOf, parentOf, labelOf, withFirst, withLeaf, withRoot, withLink}
 use Rattle.plain_list.specs.Naive.{naiveAnswer, naiveSame, naiveRoot}
 
@@ -24,7 +23,7 @@ pub data PlainCall : Type 0 where
 
 -- a refusal's number, a new node's number, that a tree was linked, the answer to a question, 1 or 0 for alike, or inspection's yes
 pub data PlainReply : Type 0 where
-  refused : ℕ → PlainReply
+  refusal : ℕ → PlainReply
   node : ℕ → PlainReply
   linked : PlainReply
   answered : Answer → PlainReply
@@ -42,7 +41,7 @@ abbrev pub replies : PlainReply → PlainList → PlainOutcome
 replies r p = record { reply = r; after = p; joined = 0 }
 
 abbrev pub refusalOf : ℕ → PlainList → PlainOutcome
-refusalOf n p = replies (refused n) p
+refusalOf n p = replies (refusal n) p
 
 -- refusal n unless the test passes
 abbrev pub unless : Bool → ℕ → PlainList → PlainOutcome → PlainOutcome
@@ -58,8 +57,11 @@ abbrev pub bothKnown : PlainList → ℕ → ℕ → Bool
 bothKnown p x y = ltb x (countOf p) && ltb y (countOf p)
 
 -- a label goes from 1 to 9,999
+abbrev pub largestLabel : ℕ
+largestLabel = 9999
+
 abbrev pub isLabel : ℕ → Bool
-isLabel l = leb 1 l && leb l labelLimit
+isLabel l = leb 1 l && leb l largestLabel
 
 -- there is room for one node more
 abbrev pub hasRoom : ℕ → PlainList → Bool

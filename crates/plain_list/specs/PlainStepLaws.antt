@@ -7,19 +7,18 @@ use native.Mathlib.Omega.{arith}
 use borrow.Author.Tests.{lt-ltb, le-ltb, le-leb, eq-eqb, ne-eqb}
 use Rattle.laws.specs.Test.{Says, holds, fails, says-false, says-not, says-and, says-eqb, says-ltb, says-leb, pick, bit}
 use Rattle.tree_laws.specs.Ancestor.{none}
-use Rattle.rows.specs.StoredTree.{labelLimit}
-use Rattle.rows.specs.Answer.{Answer}
+use Rattle.tree_laws.specs.Answer.{Answer}
 use Rattle.plain_list.specs.PlainList.{PlainList, countOf, parentOf, labelOf, withFirst, withLeaf, withRoot, withLink}
 use Rattle.plain_list.specs.Naive.{naiveAnswer, naiveSame}
 use Rattle.plain_list.specs.PlainStep.{PlainCall, first, leaf, root, rootOver, link, question, alike, inspection}
-use Rattle.plain_list.specs.PlainStep.{PlainReply, refused, node, linked, answered, same, passes, PlainOutcome, replies, refusalOf, unless, grows}
-use Rattle.plain_list.specs.PlainStep.{bothKnown, isLabel, hasRoom, rootIn, treeCount, asked, plainOutcome, plainStep, plainAfter}
+use Rattle.plain_list.specs.PlainStep.{PlainReply, refusal, node, linked, answered, same, passes, PlainOutcome, replies, refusalOf, unless, grows}
+use Rattle.plain_list.specs.PlainStep.{bothKnown, largestLabel, isLabel, hasRoom, rootIn, treeCount, asked, plainOutcome, plainStep, plainAfter}
 
 pub says-bothKnown : (p : PlainList) (x y : ℕ) → Says ((x < countOf p) × (y < countOf p)) (bothKnown p x y)
 says-bothKnown p x y = says-and (says-ltb x (countOf p)) (λ _. says-ltb y (countOf p))
 
-says-label : (l : ℕ) → Says ((1 ≤ l) × (l ≤ labelLimit)) (isLabel l)
-says-label l = says-and (says-leb 1 l) (λ _. says-leb l labelLimit)
+says-label : (l : ℕ) → Says ((1 ≤ l) × (l ≤ largestLabel)) (isLabel l)
+says-label l = says-and (says-leb 1 l) (λ _. says-leb l largestLabel)
 
 -- The services
 
@@ -28,11 +27,11 @@ module _ (capacity : ℕ) (p : PlainList) where
   unfolding plainOutcome
   first-served s e d = rw (eq-eqb s capacity e, ne-eqb (countOf p) capacity d)
 
-  pub leaf-served : (v l s : ℕ) → s ≡ capacity → v < countOf p → 1 ≤ l → l ≤ labelLimit → countOf p ≢ capacity
+  pub leaf-served : (v l s : ℕ) → s ≡ capacity → v < countOf p → 1 ≤ l → l ≤ largestLabel → countOf p ≢ capacity
       → plainOutcome capacity p (leaf v l s) ≡ grows p (withLeaf p v l)
   unfolding plainOutcome
   leaf-served v l s e h i j d =
-      rw (eq-eqb s capacity e, lt-ltb v (countOf p) h, le-leb 1 l i, le-leb l labelLimit j, ne-eqb (countOf p) capacity d)
+      rw (eq-eqb s capacity e, lt-ltb v (countOf p) h, le-leb 1 l i, le-leb l largestLabel j, ne-eqb (countOf p) capacity d)
 
   -- 01's new root, where there is no node and where there is one
   pub root-served-first : (s : ℕ) → s ≡ capacity → countOf p ≢ capacity → countOf p ≡ 0 → plainOutcome capacity p (root s) ≡ grows p (withFirst p)
@@ -48,7 +47,7 @@ module _ (capacity : ℕ) (p : PlainList) where
   unfolding plainOutcome
   over-served x s e h r d = rw (eq-eqb s capacity e, lt-ltb x (countOf p) h, eq-eqb (parentOf p x) none r, ne-eqb (countOf p) capacity d)
 
-  pub link-served : (x v door s : ℕ) → s ≡ capacity → x < countOf p → v < countOf p → 1 ≤ door → door ≤ labelLimit → parentOf p x ≡ none → rootIn p v ≢ x
+  pub link-served : (x v door s : ℕ) → s ≡ capacity → x < countOf p → v < countOf p → 1 ≤ door → door ≤ largestLabel → parentOf p x ≡ none → rootIn p v ≢ x
       → plainOutcome capacity p (link x v door s) ≡ record { reply = linked; after = withLink p x v door; joined = treeCount p x }
   unfolding plainOutcome
   link-served x v door s e h i j k r d = rw (
@@ -56,7 +55,7 @@ module _ (capacity : ℕ) (p : PlainList) where
     lt-ltb x (countOf p) h,
     lt-ltb v (countOf p) i,
     le-leb 1 door j,
-    le-leb door labelLimit k,
+    le-leb door largestLabel k,
     eq-eqb (parentOf p x) none r,
     ne-eqb (rootIn p v) x d,
   )
@@ -94,14 +93,14 @@ module _ (capacity : ℕ) (p : PlainList) where
   unfolding plainOutcome
   leaf-unknown v l s e h = rw (eq-eqb s capacity e, le-ltb v (countOf p) h)
 
-  pub leaf-no-label : (v l s : ℕ) → s ≡ capacity → v < countOf p → ¬ ((1 ≤ l) × (l ≤ labelLimit)) → plainOutcome capacity p (leaf v l s) ≡ refusalOf 5 p
+  pub leaf-no-label : (v l s : ℕ) → s ≡ capacity → v < countOf p → ¬ ((1 ≤ l) × (l ≤ largestLabel)) → plainOutcome capacity p (leaf v l s) ≡ refusalOf 5 p
   unfolding plainOutcome
   leaf-no-label v l s e h d = rw (eq-eqb s capacity e, lt-ltb v (countOf p) h, says-false (says-label l) d)
 
-  pub leaf-full : (v l s : ℕ) → s ≡ capacity → v < countOf p → 1 ≤ l → l ≤ labelLimit → countOf p ≡ capacity
+  pub leaf-full : (v l s : ℕ) → s ≡ capacity → v < countOf p → 1 ≤ l → l ≤ largestLabel → countOf p ≡ capacity
       → plainOutcome capacity p (leaf v l s) ≡ refusalOf 2 p
   unfolding plainOutcome
-  leaf-full v l s e h i j f = rw (eq-eqb s capacity e, lt-ltb v (countOf p) h, le-leb 1 l i, le-leb l labelLimit j, eq-eqb (countOf p) capacity f)
+  leaf-full v l s e h i j f = rw (eq-eqb s capacity e, lt-ltb v (countOf p) h, le-leb 1 l i, le-leb l largestLabel j, eq-eqb (countOf p) capacity f)
 
   pub root-misfit : (s : ℕ) → s ≢ capacity → plainOutcome capacity p (root s) ≡ refusalOf 3 p
   unfolding plainOutcome
@@ -160,15 +159,15 @@ module _ (capacity : ℕ) (p : PlainList) (x v door s : ℕ) where
     link-unknown d = rw (eq-eqb s capacity e, says-false (says-bothKnown p x v) d)
 
     module _ (h : x < countOf p) (i : v < countOf p) where
-      pub link-no-label : ¬ ((1 ≤ door) × (door ≤ labelLimit)) → plainOutcome capacity p (link x v door s) ≡ refusalOf 5 p
+      pub link-no-label : ¬ ((1 ≤ door) × (door ≤ largestLabel)) → plainOutcome capacity p (link x v door s) ≡ refusalOf 5 p
       unfolding plainOutcome
       link-no-label d = rw (eq-eqb s capacity e, lt-ltb x (countOf p) h, lt-ltb v (countOf p) i, says-false (says-label door) d)
 
-      module _ (j : 1 ≤ door) (k : door ≤ labelLimit) where
+      module _ (j : 1 ≤ door) (k : door ≤ largestLabel) where
         pub link-no-root : parentOf p x ≢ none → plainOutcome capacity p (link x v door s) ≡ refusalOf 10 p
         unfolding plainOutcome
         link-no-root d =
-            rw (eq-eqb s capacity e, lt-ltb x (countOf p) h, lt-ltb v (countOf p) i, le-leb 1 door j, le-leb door labelLimit k, ne-eqb (parentOf p x) none d)
+            rw (eq-eqb s capacity e, lt-ltb x (countOf p) h, lt-ltb v (countOf p) i, le-leb 1 door j, le-leb door largestLabel k, ne-eqb (parentOf p x) none d)
 
         pub link-own-tree : parentOf p x ≡ none → rootIn p v ≡ x → plainOutcome capacity p (link x v door s) ≡ refusalOf 11 p
         unfolding plainOutcome
@@ -177,7 +176,7 @@ module _ (capacity : ℕ) (p : PlainList) (x v door s : ℕ) where
           lt-ltb x (countOf p) h,
           lt-ltb v (countOf p) i,
           le-leb 1 door j,
-          le-leb door labelLimit k,
+          le-leb door largestLabel k,
           eq-eqb (parentOf p x) none r,
           eq-eqb (rootIn p v) x f,
         )
@@ -188,14 +187,14 @@ module _ (capacity : ℕ) (p : PlainList) (x v door s : ℕ) where
 pub data Does (capacity : ℕ) (p : PlainList) : PlainCall → PlainOutcome → Type 0 where
   nothing : {q : PlainCall} {r : PlainReply} → r ≢ linked → Does capacity p q (replies r p)
   adds-first : {q : PlainCall} → countOf p ≢ capacity → Does capacity p q (grows p (withFirst p))
-  adds-leaf : {q : PlainCall} {v l : ℕ} → v < countOf p → 1 ≤ l → l ≤ labelLimit → countOf p ≢ capacity → Does capacity p q (grows p (withLeaf p v l))
+  adds-leaf : {q : PlainCall} {v l : ℕ} → v < countOf p → 1 ≤ l → l ≤ largestLabel → countOf p ≢ capacity → Does capacity p q (grows p (withLeaf p v l))
   adds-root : {q : PlainCall} → countOf p ≢ 0 → countOf p ≢ capacity → Does capacity p q (grows p (withRoot p (rootIn p 0)))
   adds-over : {q : PlainCall} {r : ℕ} → r < countOf p → parentOf p r ≡ none → countOf p ≢ capacity → Does capacity p q (grows p (withRoot p r))
-  joins : {x v door s : ℕ} → x < countOf p → v < countOf p → 1 ≤ door → door ≤ labelLimit → parentOf p x ≡ none → rootIn p v ≢ x
+  joins : {x v door s : ℕ} → x < countOf p → v < countOf p → 1 ≤ door → door ≤ largestLabel → parentOf p x ≡ none → rootIn p v ≢ x
       → Does capacity p (link x v door s) (record { reply = linked; after = withLink p x v door; joined = treeCount p x })
 
 -- a reply that does not say that a tree was linked
-refused-unlinked : (n : ℕ) → refused n ≢ linked
+refused-unlinked : (n : ℕ) → refusal n ≢ linked
 refused-unlinked n e = let z : _≡_ {A = ℕ} 0 1 = cc in omega arith
 
 pub node-unlinked : (n : ℕ) → node n ≢ linked
@@ -252,13 +251,13 @@ module _ (capacity : ℕ) (p : PlainList) where
   call-does (inspection s) = checked 3 (says-eqb s capacity) (λ _. nothing passes-unlinked)
 
   -- a refusal changes nothing
-  pub refusal-keeps : (q : PlainCall) (n : ℕ) → plainStep capacity p q ≡ refused n → plainAfter capacity p q ≡ p
+  pub refusal-keeps : (q : PlainCall) (n : ℕ) → plainStep capacity p q ≡ refusal n → plainAfter capacity p q ≡ p
   refusal-keeps q n e = go (call-does q) e
     where
-      not-node : {m : ℕ} → node m ≢ refused n
+      not-node : {m : ℕ} → node m ≢ refusal n
       not-node e = let z : _≡_ {A = ℕ} 0 1 = cc in omega arith
 
-      go : {q : PlainCall} {o : PlainOutcome} → Does capacity p q o → o .reply ≡ refused n → o .after ≡ p
+      go : {q : PlainCall} {o : PlainOutcome} → Does capacity p q o → o .reply ≡ refusal n → o .after ≡ p
       go (nothing d) e = refl
       go (adds-first d) e = absurd (not-node e)
       go (adds-leaf h i j d) e = absurd (not-node e)

@@ -1,16 +1,16 @@
 -- Parents and labels that are the plain list's: what they answer, the plain list answers.
-use mathlib.Core.Path.{_≡_, sym, ap, _∙_}
+use mathlib.Core.Path.{_≡_, sym, _∙_}
 use mathlib.Core.Bool.{Bool}
 use mathlib.Core.Logic.{_≢_}
 use Prim.Native.Nat.{ℕ, _<_}
 use native.Mathlib.Decide.{ℕ-discrete}
 use native.Mathlib.Omega.{arith}
-use Rattle.laws.specs.Test.{Says, says-eq, bit}
+use Rattle.laws.specs.Test.{Says, says-eq}
 use Rattle.tree_laws.specs.Ancestor.{none, Forest}
 use Rattle.tree_laws.specs.AncestorLaws.{trans, anc-in}
 use Rattle.tree_laws.specs.Nca.{Kindred}
 use Rattle.tree_laws.specs.Top.{first-one}
-use Rattle.rows.specs.Answer.{Answer, Answers, SameLabels}
+use Rattle.tree_laws.specs.Answer.{Answer, Answers, SameLabels}
 use Rattle.plain_list.specs.PlainList.{PlainList, emptyList, countOf, parentOf, labelOf, withNode, withRoot, withLink}
 use Rattle.plain_list.specs.PlainListLaws.{node-count, node-parent-old, node-parent-new, node-label-old, node-label-new}
 use Rattle.plain_list.specs.PlainListLaws.{root-count, root-parent-new, root-parent-old, root-parent-other, root-label-old, root-label-new}
@@ -18,8 +18,7 @@ use Rattle.plain_list.specs.PlainListLaws.{link-count, link-parent-root,
 use Rattle.plain_list.specs.Naive.{naiveAnswer, naiveSame}
 use Rattle.plain_list.specs.NaiveLaws.{naive-answers, says-same}
 use Rattle.plain_list.specs.AnswerLaws.{forest-agree, anc-agree, anc-agree-back, answers-unique, answers-agree, same-agree}
-use Rattle.plain_list.specs.PlainStep.{question, alike, answered, same, rootIn, plainStep}
-use Rattle.plain_list.specs.PlainStepLaws.{question-served, alike-served}
+use Rattle.plain_list.specs.PlainStep.{rootIn}
 use Rattle.plain_list.specs.Proper.{Proper, proper-forest, walk-enough, root-first}
 
 -- on the nodes of the list, up gives its parents and label its labels
@@ -78,14 +77,6 @@ module _ {capacity : ℕ} {p : PlainList} {up label : ℕ → ℕ} (t : Proper c
       (same-agree shown-forest (λ z i. sym (s .parents z i)) (λ z i. sym (s .labels z i)) l m)
       (says-same (proper-forest t) (labelOf p) (countOf p) l m (walk-enough t x l) (walk-enough t y m))
       a
-
-  pub question-reply : {x y : ℕ} {r : Answer} → x < countOf p → y < countOf p → rootIn p x ≡ rootIn p y → Answers up label x y r
-      → plainStep capacity p (question x y) ≡ answered r
-  question-reply {x} {y} l m e a = ap (λ o. o .reply) (question-served capacity p x y l m e) ∙ ap answered (naive-is l m e a)
-
-  pub alike-reply : {x y : ℕ} {b : Bool} → x < countOf p → y < countOf p → rootIn p x ≡ rootIn p y → Says (SameLabels up label x y) b
-      → plainStep capacity p (alike x y) ≡ same (bit b)
-  alike-reply {x} {y} l m e a = ap (λ o. o .reply) (alike-served capacity p x y l m e) ∙ ap (λ b. same (bit b)) (naive-same-is l m a)
 
 -- Growth
 

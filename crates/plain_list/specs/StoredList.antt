@@ -11,7 +11,7 @@ use Rattle.tree_laws.specs.Ancestor.{none}
 use Rattle.plain_list.specs.PlainList.{PlainList, countOf, parentOf, withLink}
 use Rattle.plain_list.specs.Naive.{ancestorsOf, isIn}
 use Rattle.plain_list.specs.PlainStep.{PlainCall, first, leaf, root, rootOver, link, question, alike, inspection}
-use Rattle.plain_list.specs.PlainStep.{PlainReply, refused, node, linked, answered, same, passes, rootIn, plainStep, plainAfter}
+use Rattle.plain_list.specs.PlainStep.{PlainReply, refusal, node, linked, answered, same, passes, rootIn, plainStep, plainAfter}
 
 -- node x has the stored parent that stands at x, none for the first of a tree
 abbrev pub StoredList : Type 0
@@ -49,7 +49,7 @@ storedLink p l (inspection scratch) = l
 
 -- by a call on the plain list p, and by the reply: only what is served changes it
 abbrev pub storedBy : PlainList → StoredList → PlainCall → PlainReply → StoredList
-storedBy p l q (refused n) = l
+storedBy p l q (refusal n) = l
 storedBy p l q (node n) = l ++ (storedUnder p q ∷ [])
 storedBy p l q linked = storedLink p l q
 storedBy p l q (answered a) = l

@@ -5,14 +5,14 @@ use lib.Dec.{eqb}
 use lib.IntN.{ℤ, pos}
 use lib.ListN.{length}
 use Rattle.laws.specs.Test.{bit, pick}
-use Rattle.rows.specs.declared.refusal.Refusal.the-variants.{Misfit}
-use Rattle.rows.specs.declared.state.State.{State}
-use Rattle.rows.specs.Refusal.{numberOf}
+use Rattle.table.specs.declared.refusal.Refusal.the-variants.{Misfit}
+use Rattle.table.specs.declared.state.State.{State}
+use Rattle.table.specs.Refusal.{numberOf}
 use Rattle.set_up.specs.Outcome.{Outcome as SetUpOutcome, refusal as notMade, empty}
 use Rattle.growth.specs.Outcome.{Outcome as GrowthOutcome, refusal as notGrown, node}
-use Rattle.link.specs.Outcome.{Outcome as LinkOutcome, refusal as notLinked, under}
-use Rattle.query.specs.Outcome.{Outcome as QuestionOutcome, refusal as noAnswer, answer}
-use Rattle.alike.specs.Outcome.{Outcome as AlikeOutcome, refusal as noValue, value}
+use Rattle.link.specs.Outcome.{Outcome as LinkOutcome, refusal as notLinked, linked}
+use Rattle.query.specs.Outcome.{Outcome as QuestionOutcome, refusal as noAnswer, answered}
+use Rattle.alike.specs.Outcome.{Outcome as AlikeOutcome, refusal as noValue, same}
 use Rattle.inspect.specs.Outcome.{Outcome as InspectionOutcome, refusal as notInspected, passes}
 
 -- the count, as it goes in
@@ -47,17 +47,17 @@ grownReply out (node c n k) = reply 0 (c ∷ n ∷ k ∷ [])
 -- the rows renumbered
 abbrev pub linkReply : List ℕ → LinkOutcome → Reply ℕ
 linkReply out (notLinked n) = reply n out
-linkReply out (under k) = reply 0 (k ∷ [])
+linkReply out (linked k) = reply 0 (k ∷ [])
 
 -- the nearest common ancestor, the branches towards x and y, their distances, and the label
 abbrev pub questionReply : List ℤ → QuestionOutcome → Reply ℤ
 questionReply out (noAnswer n) = reply n out
-questionReply out (answer a u v i j l) = reply 0 (pos a ∷ pos u ∷ pos v ∷ i ∷ j ∷ pos l ∷ [])
+questionReply out (answered a u v i j l) = reply 0 (pos a ∷ pos u ∷ pos v ∷ i ∷ j ∷ pos l ∷ [])
 
 -- 1 or 0
 abbrev pub alikeReply : List ℕ → AlikeOutcome → Reply ℕ
 alikeReply out (noValue n) = reply n out
-alikeReply out (value b) = reply 0 (b ∷ [])
+alikeReply out (same b) = reply 0 (b ∷ [])
 
 -- 1 or 0
 abbrev pub inspectionReply : List ℕ → InspectionOutcome → Reply ℕ

@@ -3,18 +3,18 @@ use mathlib.Core.Bool.{true}
 use mathlib.Core.List.{List, [], _∷_}
 use Prim.Native.Nat.{ℕ}
 use lib.IntN.{pos}
-use Rattle.rows.specs.Answer.{Answer}
-use Rattle.plain_list.specs.PlainStep.{PlainReply, refused as plainRefused, node, linked as plainLinked, answered as plainAnswered, same as plainSame, passes}
-use Rattle.sequence.specs.Calls.{Reply, refused, grown, linked, answered, same, inspected}
+use Rattle.tree_laws.specs.Answer.{Answer}
+use Rattle.plain_list.specs.PlainStep.{PlainReply, refusal as plainRefusal, node as plainNode, linked as plainLinked, answered as plainAnswered, same as plainSame, passes as plainPasses}
+use Rattle.sequence.specs.Calls.{Reply, refusal, node, linked, answered, same, passes}
 
 -- the same refusal, node, link, six values, 1 or 0, or yes; the rows renumbered are not the plain list's to tell
 pub data Agrees : PlainReply → Reply → Type 0 where
-  refusals : (n : ℕ) → Agrees (plainRefused n) (refused n)
-  nodes : (n rows : ℕ) → Agrees (node n) (grown n rows)
+  refusals : (n : ℕ) → Agrees (plainRefusal n) (refusal n)
+  nodes : (n rows : ℕ) → Agrees (plainNode n) (node n rows)
   links : (rows : ℕ) → Agrees plainLinked (linked rows)
   answers : (r : Answer) → Agrees (plainAnswered r) (answered (r .nca) (r .toX) (r .toY) (pos (r .distanceX)) (pos (r .distanceY)) (r .label))
   alikes : (b : ℕ) → Agrees (plainSame b) (same b)
-  pass : Agrees passes (inspected true)
+  pass : Agrees plainPasses (passes true)
 
 -- reply by reply, and as many
 pub data AllAgree : List PlainReply → List Reply → Type 0 where

@@ -10,31 +10,31 @@ use borrow.Author.Tests.{eq-eqb, ne-eqb}
 use lib.ListN.{length}
 use Rattle.laws.specs.Test.{says-true, bit}
 use Rattle.tree_laws.specs.Nca.{Kindred}
-use Rattle.rows.specs.declared.refusal.Refusal.{Refusal}
-use Rattle.rows.specs.declared.refusal.Refusal.the-variants.{UnknownNode, Misfit, OtherTree}
-use Rattle.rows.specs.Refusal.{numberOf}
-use Rattle.rows.specs.Answer.{Answer}
-use Rattle.rows.specs.PlainTree.{plain}
+use Rattle.table.specs.declared.refusal.Refusal.{Refusal}
+use Rattle.table.specs.declared.refusal.Refusal.the-variants.{UnknownNode, Misfit, OtherTree}
+use Rattle.table.specs.Refusal.{numberOf}
+use Rattle.tree_laws.specs.Answer.{Answer}
+use Rattle.table.specs.PlainTree.{plain}
 use Rattle.query.specs.Outcome.{Outcome as QuestionOutcome, refused as noAnswer}
 use Rattle.query.specs.Question.{question as ask}
 use Rattle.query.specs.QuestionLaws.{question-unknown-x, question-unknown-y}
-use Rattle.rows.specs.CapacityLaws.{fits-told}
-use Rattle.question.specs.QuestionExact.{given, question-exact, question-other-tree}
+use Rattle.table.specs.CapacityLaws.{fits-told}
+use Rattle.query_exact.specs.QuestionExact.{given, question-exact, question-other-tree}
 use Rattle.alike.specs.Outcome.{Outcome as AlikeOutcome, refused as noValue}
 use Rattle.alike.specs.Alike.{alike as compare}
 use Rattle.alike.specs.AlikeLaws.{alike-unknown-x, alike-unknown-y}
-use Rattle.alike.specs.AlikeExact.{alike-exact, alike-other-tree}
-use Rattle.inspect_laws.specs.Exact.{inspect-exact}
+use Rattle.alike_exact.specs.AlikeExact.{alike-exact, alike-other-tree}
+use Rattle.inspect_exact.specs.Exact.{inspect-exact}
 use Rattle.inspect.specs.Outcome.{Outcome as InspectionOutcome, refused as notInspected, passes as inspectionPasses}
 use Rattle.inspect.specs.Inspection.{inspection as inspect}
 use Rattle.plain_list.specs.PlainList.{PlainList, countOf}
-use Rattle.plain_list.specs.PlainStep.{PlainReply, PlainOutcome, replies as plainReplies, refused as plainRefused, answered as plainAnswered, same as plainSame, passes}
+use Rattle.plain_list.specs.PlainStep.{PlainReply, PlainOutcome, replies as plainReplies, refusal as plainRefusal, answered as plainAnswered, same as plainSame, passes as plainPasses}
 use Rattle.plain_list.specs.PlainStep.{question as plainQuestion, alike as plainAlike, inspection as plainInspection, refusalOf, rootIn, plainOutcome}
 use Rattle.plain_list.specs.PlainStepLaws.{question-served, alike-served, inspection-served}
 use Rattle.plain_list.specs.PlainStepLaws.{question-unknown, question-apart, alike-unknown, alike-apart, inspection-misfit}
 use Rattle.plain_list.specs.Shows.{roots-kindred, kindred-roots, naive-is, naive-same-is}
 use Rattle.plain_list.specs.StoredList.{StoredList}
-use Rattle.sequence.specs.Calls.{Call, question, alike, inspection, Reply, refused, same, inspected}
+use Rattle.sequence.specs.Calls.{Call, question, alike, inspection, Reply, refusal, same, passes}
 use Rattle.sequence.specs.Run.{Fast, tableIn, Turn, replies, questionReply, alikeReply, inspectionReply, step}
 use Rattle.sequence.specs.Agrees.{refusals, answers, alikes, pass}
 use Rattle.sequence.specs.Invariant.{Stands}
@@ -47,7 +47,7 @@ module _ {c : ℕ} {f : Fast} {p : PlainList} {stored : StoredList} {total joini
       → StepStands c f p stored total joinings q (plainReplies r p) (replies f v) → StepStands c f p stored total joinings q o u
   steps-by q r v e i k = rw (e, i) k
 
-  pub still-refused : (q : Call) (n : ℕ) → StepStands c f p stored total joinings q (refusalOf n p) (replies f (refused n))
+  pub still-refused : (q : Call) (n : ℕ) → StepStands c f p stored total joinings q (refusalOf n p) (replies f (refusal n))
   still-refused q n = still s q (refusals n) refl (λ n k e. let z : _≡_ {A = ℕ} 0 1 = cc in omega arith) (λ k e. let z : _≡_ {A = ℕ} 0 1 = cc in omega arith)
 
   -- Nodes of one tree
@@ -64,7 +64,7 @@ module _ {c : ℕ} {f : Fast} {p : PlainList} {stored : StoredList} {total joini
     question-refused : (r : Refusal) → plainOutcome c p (plainQuestion x y) ≡ refusalOf (numberOf r) p → ask (f .parts) (f .state) x y ≡ noAnswer r
         → StepStands c f p stored total joinings (question x y) (plainOutcome c p (plainQuestion x y)) (step f (question x y))
     unfolding step
-    question-refused r e i = steps-by (question x y) (plainRefused (numberOf r)) (refused (numberOf r)) e
+    question-refused r e i = steps-by (question x y) (plainRefusal (numberOf r)) (refusal (numberOf r)) e
         (ap (λ (o : QuestionOutcome). replies f (questionReply o)) i) (still-refused (question x y) (numberOf r))
 
     question-given : (r : Answer) → plainOutcome c p (plainQuestion x y) ≡ plainReplies (plainAnswered r) p
@@ -103,7 +103,7 @@ module _ {c : ℕ} {f : Fast} {p : PlainList} {stored : StoredList} {total joini
     alike-refused : (r : Refusal) → plainOutcome c p (plainAlike x y) ≡ refusalOf (numberOf r) p → compare (f .parts) (f .state) x y ≡ noValue r
         → StepStands c f p stored total joinings (alike x y) (plainOutcome c p (plainAlike x y)) (step f (alike x y))
     unfolding step
-    alike-refused r e i = steps-by (alike x y) (plainRefused (numberOf r)) (refused (numberOf r)) e
+    alike-refused r e i = steps-by (alike x y) (plainRefusal (numberOf r)) (refusal (numberOf r)) e
         (ap (λ (o : AlikeOutcome). replies f (alikeReply o)) i) (still-refused (alike x y) (numberOf r))
 
     alike-answered : x < countOf p → y < countOf p → rootIn p x ≡ rootIn p y
@@ -146,9 +146,9 @@ module _ {c : ℕ} {f : Fast} {p : PlainList} {stored : StoredList} {total joini
       (step f (inspection scratch))
   unfolding step
   inspection-step scratch = elim (ℕ-discrete (length scratch) c) [
-    | no d ↦ steps-by (inspection scratch) (plainRefused 3) (refused 3) (inspection-misfit c p (length scratch) d)
+    | no d ↦ steps-by (inspection scratch) (plainRefusal 3) (refusal 3) (inspection-misfit c p (length scratch) d)
         (ap (λ (o : InspectionOutcome). replies f (inspectionReply o)) (inspection-not (length scratch) d)) (still-refused (inspection scratch) 3)
-    | yes e ↦ steps-by (inspection scratch) passes (inspected true) (inspection-served c p (length scratch) e)
+    | yes e ↦ steps-by (inspection scratch) plainPasses (passes true) (inspection-served c p (length scratch) e)
         (ap (λ (o : InspectionOutcome). replies f (inspectionReply o)) (inspection-is (length scratch) e))
         (still s (inspection scratch) pass refl (λ n k e. let z : _≡_ {A = ℕ} 0 1 = cc in omega arith) (λ k e. let z : _≡_ {A = ℕ} 0 1 = cc in omega arith))
   ]

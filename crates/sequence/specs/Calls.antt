@@ -38,9 +38,9 @@ toldAll (q ∷ qs) = told q ∷ toldAll qs
 -- a refusal's number; a new node and the rows renumbered; the rows that a link's joinings renumbered, added up; the six values of a question; 1 or 0
 -- for alike; whether inspection passes
 pub data Reply : Type 0 where
-  refused : ℕ → Reply
-  grown : (node rows : ℕ) → Reply
+  refusal : ℕ → Reply
+  node : (number rows : ℕ) → Reply
   linked : (rows : ℕ) → Reply
   answered : (nca toX toY : ℕ) (distanceX distanceY : ℤ) (label : ℕ) → Reply
   same : ℕ → Reply
-  inspected : Bool → Reply
+  passes : Bool → Reply

@@ -9,14 +9,13 @@ use borrow.Author.Tests.{eq-eqb, ne-eqb}
 use lib.ListN.{length}
 use Rattle.laws.specs.Test.{says-true, says-false}
 use Rattle.tree_laws.specs.Ancestor.{none}
-use Rattle.rows.specs.declared.refusal.Refusal.{Refusal}
-use Rattle.rows.specs.declared.refusal.Refusal.the-variants.{UnknownNode, Full, Misfit, BadLabel, NotRoot}
-use Rattle.rows.specs.Refusal.{numberOf}
-use Rattle.rows.specs.Table.{label}
-use Rattle.rows.specs.PlainTree.{plain, root as rootOf}
-use Rattle.rows.specs.StoredTree.{labelLimit}
-use Rattle.numbering.specs.TreeTests.{root-is}
-use Rattle.join.specs.declared.plan.Planned.the-variants.{Refuse}
+use Rattle.table.specs.declared.refusal.Refusal.{Refusal}
+use Rattle.table.specs.declared.refusal.Refusal.the-variants.{UnknownNode, Full, Misfit, BadLabel, NotRoot}
+use Rattle.table.specs.Refusal.{numberOf}
+use Rattle.table.specs.PlainTree.{plain, root as rootOf}
+use Rattle.table.specs.Rules.{labelLimit}
+use Rattle.table_laws.specs.TreeTests.{root-is}
+use Rattle.growth.specs.declared.plan.Planned.the-variants.{Refuse}
 use Rattle.growth.specs.Plan.{firstPlan, leafPlan, overPlan, rootPlan}
 use Rattle.growth.specs.PlanLaws.{leaf-scratch, leaf-unknown, leaf-label, leaf-full, first-scratch, first-full, root-scratch, root-full}
 use Rattle.growth.specs.PlanLaws.{over-scratch, over-unknown, over-other, over-full}
@@ -52,7 +51,7 @@ module _ {c : ℕ} {f : Fast} {p : PlainList} {stored : StoredList} {total joini
   first-next {o} n e = record {
     proper = proper-first small (s .proper) n;
     shows = shows-node (s .proper) (s .shows) (λ x i. e .plain .labelOld x (in-use s i)) (λ x i. e .plain .parentOld x (in-use s i))
-        (ap (plain (tableGrown (f .state) o)) (s .count) ∙ e .plain .parentNew) (ap (label (tableGrown (f .state) o)) (s .count) ∙ e .plain .labelNew);
+        (ap (plain (tableGrown (f .state) o)) (s .count) ∙ e .plain .parentNew) (ap (tableGrown (f .state) o .label) (s .count) ∙ e .plain .labelNew);
     count = node-count p none 0;
   }
 
@@ -61,7 +60,7 @@ module _ {c : ℕ} {f : Fast} {p : PlainList} {stored : StoredList} {total joini
   leaf-next {v} {l} {o} n h e = record {
     proper = proper-leaf small (s .proper) n l h;
     shows = shows-node (s .proper) (s .shows) (λ x i. e .plain .labelOld x (in-use s i)) (λ x i. e .plain .parentOld x (in-use s i))
-        (ap (plain (tableGrown (f .state) o)) (s .count) ∙ e .plain .parentNew) (ap (label (tableGrown (f .state) o)) (s .count) ∙ e .plain .labelNew);
+        (ap (plain (tableGrown (f .state) o)) (s .count) ∙ e .plain .parentNew) (ap (tableGrown (f .state) o .label) (s .count) ∙ e .plain .labelNew);
     count = node-count p v l;
   }
 
@@ -72,7 +71,7 @@ module _ {c : ℕ} {f : Fast} {p : PlainList} {stored : StoredList} {total joini
     shows = shows-root (s .proper) (s .shows) (λ x i. e .plain .labelOld x (in-use s i)) h
         (λ x i d. e .plain .parentOld x (in-use s i) ∙ (rw (ne-eqb x r d) refl))
         (e .plain .parentOld r (in-use s h) ∙ (rw (eq-eqb r r refl) (sym (s .count))))
-        (ap (plain (tableGrown (f .state) o)) (s .count) ∙ e .plain .parentNew) (ap (label (tableGrown (f .state) o)) (s .count) ∙ e .plain .labelNew);
+        (ap (plain (tableGrown (f .state) o)) (s .count) ∙ e .plain .parentNew) (ap (tableGrown (f .state) o .label) (s .count) ∙ e .plain .labelNew);
     count = root-count p r;
   }
 

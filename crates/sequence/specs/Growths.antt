@@ -5,34 +5,36 @@ use native.Mathlib.Omega.{arith}
 use borrow.Author.Tests.{eq-eqb, ne-eqb}
 use Rattle.laws.specs.Test.{Says, says-and, says-leb}
 use Rattle.tree_laws.specs.Ancestor.{none}
-use Rattle.rows.specs.declared.capacity.Fit.the-variants.{Capacity}
-use Rattle.rows.specs.declared.refusal.Refusal.{Refusal}
-use Rattle.rows.specs.Refusal.{numberOf}
-use Rattle.rows.specs.Capacity.{capacityOf}
-use Rattle.rows.specs.Table.{Table, label, parent}
-use Rattle.rows.specs.PlainTree.{plain}
-use Rattle.rows.specs.CapacityLaws.{fits-told}
-use Rattle.rows.specs.StoredTree.{labelLimit}
-use Rattle.rows.specs.Rules.{numbered}
-use Rattle.join.specs.declared.plan.Planned.{Planned}
-use Rattle.join.specs.declared.plan.Planned.the-variants.{Refuse}
+use Rattle.table.specs.declared.capacity.Fit.the-variants.{Capacity}
+use Rattle.table.specs.declared.refusal.Refusal.{Refusal}
+use Rattle.table.specs.Refusal.{numberOf}
+use Rattle.table.specs.Capacity.{capacityOf}
+use Rattle.table.specs.Table.{Table}
+use Rattle.layer.specs.Layer.{parent}
+use Rattle.table.specs.PlainTree.{plain}
+use Rattle.table.specs.CapacityLaws.{fits-told}
+use Rattle.table.specs.Rules.{labelLimit}
+use Rattle.table.specs.Rules.{numbered}
+use Rattle.growth.specs.declared.plan.Planned.{Planned}
+use Rattle.growth.specs.declared.plan.Planned.the-variants.{Refuse}
 use Rattle.growth.specs.Plan.{isLabel}
 use Rattle.growth.specs.Outcome.{Outcome}
 use Rattle.growth.specs.Growth.{Result, grownBy}
 use Rattle.growth_laws.specs.Growth.{Growth, Named, named-root, parentOf}
 use Rattle.growth_laws.specs.Grown.{Grown, Started}
-use Rattle.growth_laws.specs.GrownLaws.{extended-parent, extended-lone, parent-old, parent-new}
-use Rattle.growth_laws.specs.Renumbered.{rows}
-use Rattle.growth_laws.specs.Trees.{shape-of}
+use Rattle.layer_laws.specs.Numbered.{shape}
+use Rattle.join_laws.specs.ExtendedLaws.{extended-parent, extended-lone}
+use Rattle.growth_laws.specs.GrownLaws.{parent-old, parent-new}
+use Rattle.join_laws.specs.Renumbered.{rows}
 use Rattle.growth_exact.specs.GrowthExact.{GrownExactly, tableGrown}
 use Rattle.growth_exact.specs.FirstExact.{StartedExactly}
 use Rattle.plain_list.specs.PlainList.{PlainList, countOf}
-use Rattle.plain_list.specs.PlainStep.{PlainOutcome, node, refused as plainRefused, refusalOf, grows}
+use Rattle.plain_list.specs.PlainStep.{PlainOutcome, node as plainNode, refusal as plainRefusal, refusalOf, grows}
 use Rattle.plain_list.specs.Proper.{Proper}
 use Rattle.plain_list.specs.Shows.{Shows}
 use Rattle.plain_list.specs.StoredList.{StoredList, storedUnder, storedBy, storedBelow}
 use Rattle.plain_list.specs.Stores.{Stores, stores-node, stores-below}
-use Rattle.sequence.specs.Calls.{Call, refused, grown, told}
+use Rattle.sequence.specs.Calls.{Call, refusal, node, told}
 use Rattle.sequence.specs.Run.{Fast, tableIn, Turn, replies, grownReply, stateAfter, afterGrowth, rowsIn}
 use Rattle.sequence.specs.Agrees.{Agrees, nodes}
 use Rattle.sequence.specs.Invariant.{Stands}
@@ -44,7 +46,7 @@ use Rattle.sequence.specs.AskedSteps.{steps-by, still-refused}
 pub says-label : (l : ℕ) → Says ((1 ≤ l) × (l ≤ labelLimit)) (isLabel l)
 says-label l = says-and (says-leb 1 l) (λ _. says-leb l labelLimit)
 
-node-agrees : {a b : ℕ} (k : ℕ) → a ≡ b → Agrees (node a) (grown b k)
+node-agrees : {a b : ℕ} (k : ℕ) → a ≡ b → Agrees (plainNode a) (node b k)
 node-agrees {a} {b} k e = rw e (nodes b k)
 
 module _ {c : ℕ} {f : Fast} {p : PlainList} {stored : StoredList} {total joinings : ℕ} (s : Stands c f p stored total joinings) where
@@ -53,7 +55,7 @@ module _ {c : ℕ} {f : Fast} {p : PlainList} {stored : StoredList} {total joini
   -- p′ is the plain list after one node more, which left the table d
   pub record Next (d : Table) (p′ : PlainList) : Type 0 where
     pub proper : Proper c p′
-    pub shows : Shows (plain d) (label d) p′
+    pub shows : Shows (plain d) (d .label) p′
     pub count : countOf p′ ≡ suc (countOf p)
 
   -- the stored list has the new node under the row that the table has it under
@@ -70,12 +72,12 @@ module _ {c : ℕ} {f : Fast} {p : PlainList} {stored : StoredList} {total joini
 
   module _ {d : Table} {q : Call} where
     stored-grown : {g : Growth} {h : ℕ} → Grown (tableIn f) d g h → Asks (tableIn f) q g
-        → Stores (parent d) (suc (f .state .count)) (storedBy p stored (told q) (node (countOf p)))
+        → Stores (parent (d .layer)) (suc (f .state .count)) (storedBy p stored (told q) (plainNode (countOf p)))
     stored-grown k a =
         let r = numbered (s .rules) (s .fits .most) in
         stores-node (s .stored) (parent-old r k) (parent-new r k ∙ under-asked (k .named) a)
 
-    stored-begun : Started (tableIn f) d → Begins (tableIn f) q → Stores (parent d) (suc (f .state .count)) (storedBy p stored (told q) (node (countOf p)))
+    stored-begun : Started (tableIn f) d → Begins (tableIn f) q → Stores (parent (d .layer)) (suc (f .state .count)) (storedBy p stored (told q) (plainNode (countOf p)))
     stored-begun k a =
         let r = numbered (s .rules) (s .fits .most) in
         stores-node (s .stored) (extended-parent r (k .extended)) (extended-lone r (k .extended) .parentNone ∙ under-begun a)
@@ -107,12 +109,12 @@ module _ {c : ℕ} {f : Fast} {p : PlainList} {stored : StoredList} {total joini
       };
     }
       where
-        after : Stores (parent (tableGrown (f .state) o)) (suc (f .state .count)) (storedBy p stored (told q) (node (countOf p)))
+        after : Stores (parent (tableGrown (f .state) o .layer)) (suc (f .state .count)) (storedBy p stored (told q) (plainNode (countOf p)))
         after = stored-grown (e .grown) a
 
         -- the rows at or below the head, over the stored list
-        below : rows (tableGrown (f .state) o) (e .head) ≡ storedBelow (storedBy p stored (told q) (node (countOf p))) (e .head)
-        below = stores-below (shape-of (numbered (e .rules) (s .fits .most))) after (e .head)
+        below : rows (tableGrown (f .state) o .layer) (e .head) ≡ storedBelow (storedBy p stored (told q) (plainNode (countOf p))) (e .head)
+        below = stores-below (shape (numbered (e .rules) (s .fits .most))) after (e .head)
 
     pub started-step : {q : Call} {p′ : PlainList} → StartedExactly c (f .parts) (f .state) o → Begins (tableIn f) q
         → Next (tableGrown (f .state) o) p′ → StepStands c f p stored total joinings q (grows p p′) (afterGrowth (f .state) o)
@@ -141,10 +143,10 @@ module _ {c : ℕ} {f : Fast} {p : PlainList} {stored : StoredList} {total joini
   pub fit : Capacity c ≡ capacityOf (f .parts)
   fit = sym (fits-told (s .fits))
 
-  refused-by : (r : Refusal) (z : Planned) → Refuse r ≡ z → afterGrowth (f .state) (grownBy (f .parts) z) ≡ replies f (refused (numberOf r))
+  refused-by : (r : Refusal) (z : Planned) → Refuse r ≡ z → afterGrowth (f .state) (grownBy (f .parts) z) ≡ replies f (refusal (numberOf r))
   unfolding grownBy
   refused-by r z e = ap (λ (z : Planned). afterGrowth (f .state) (grownBy (f .parts) z)) (sym e)
 
   pub grown-refused : (q : Call) {o : PlainOutcome} (r : Refusal) (z : Planned) → o ≡ refusalOf (numberOf r) p → Refuse r ≡ z
       → StepStands c f p stored total joinings q o (afterGrowth (f .state) (grownBy (f .parts) z))
-  grown-refused q r z e i = steps-by s q (plainRefused (numberOf r)) (refused (numberOf r)) e (refused-by r z i) (still-refused s q (numberOf r))
+  grown-refused q r z e i = steps-by s q (plainRefusal (numberOf r)) (refusal (numberOf r)) e (refused-by r z i) (still-refused s q (numberOf r))

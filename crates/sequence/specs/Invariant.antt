@@ -3,13 +3,13 @@
 use mathlib.Core.Path.{_≡_, refl, _∙_}
 use mathlib.Core.List.{[]}
 use Prim.Native.Nat.{ℕ}
-use Rattle.rows.specs.Row.{Parts}
-use Rattle.rows.specs.Capacity.{Fits}
-use Rattle.rows.specs.Table.{label, parent}
-use Rattle.rows.specs.PlainTree.{plain}
-use Rattle.rows.specs.Rules.{Rules}
-use Rattle.rows.specs.CapacityLaws.{fits-told}
-use Rattle.growth_laws.specs.Lag.{Paid}
+use Rattle.table.specs.Parts.{Parts}
+use Rattle.table.specs.Capacity.{Fits}
+use Rattle.layer.specs.Layer.{parent}
+use Rattle.table.specs.PlainTree.{plain}
+use Rattle.table.specs.Rules.{Rules}
+use Rattle.table.specs.CapacityLaws.{fits-told}
+use Rattle.join_laws.specs.Lag.{Paid}
 use Rattle.growth_laws.specs.EmptyTable.{total-empty}
 use Rattle.laws.specs.Tabulate.{length-tabulate}
 use Rattle.set_up.specs.Blank.{blank, partsAfter}
@@ -26,10 +26,10 @@ pub record Stands (c : ℕ) (f : Fast) (p : PlainList) (l : StoredList) (total j
   pub fits : Fits c (f .parts)
   pub rules : Rules c (tableIn f)
   pub proper : Proper c p
-  pub shows : Shows (plain (tableIn f)) (label (tableIn f)) p
+  pub shows : Shows (plain (tableIn f)) (tableIn f .label) p
   pub count : countOf p ≡ f .state .count
-  pub stored : Stores (parent (tableIn f)) (f .state .count) l
-  pub paid : Paid (tableIn f) total joinings
+  pub stored : Stores (parent (tableIn f .layer)) (f .state .count) l
+  pub paid : Paid (tableIn f .layer) total joinings
 
 -- At the start
 
@@ -53,8 +53,8 @@ start-stands c parts f = record {
   fits = start-fits c parts f;
   rules = empty-rules c (tableIn (start parts)) refl;
   proper = proper-empty;
-  shows = shows-empty (plain (tableIn (start parts))) (label (tableIn (start parts)));
+  shows = shows-empty (plain (tableIn (start parts))) (tableIn (start parts) .label);
   count = refl;
-  stored = stores-empty (parent (tableIn (start parts)));
+  stored = stores-empty (parent (tableIn (start parts) .layer));
   paid = total-empty (tableIn (start parts)) refl;
 }

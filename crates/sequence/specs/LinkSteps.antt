@@ -12,12 +12,13 @@ use Rattle.laws.specs.Test.{says-true, says-false, says-eqb, says-eq, bit}
 use Rattle.laws.specs.Sum.{sum-eq, countTo}
 use Rattle.laws.specs.Tabulate.{tabulate}
 use Rattle.tree_laws.specs.Ancestor.{none}
-use Rattle.rows.specs.declared.refusal.Refusal.{Refusal}
-use Rattle.rows.specs.declared.refusal.Refusal.the-variants.{UnknownNode, Misfit, BadLabel, NotRoot, SameTree}
-use Rattle.rows.specs.Refusal.{numberOf}
-use Rattle.rows.specs.Table.{tableOf, parent}
-use Rattle.rows.specs.PlainTree.{first}
-use Rattle.rows.specs.StoredTree.{labelLimit}
+use Rattle.table.specs.declared.refusal.Refusal.{Refusal}
+use Rattle.table.specs.declared.refusal.Refusal.the-variants.{UnknownNode, Misfit, BadLabel, NotRoot, SameTree}
+use Rattle.table.specs.Refusal.{numberOf}
+use Rattle.table.specs.Table.{tableOf}
+use Rattle.layer.specs.Layer.{parent}
+use Rattle.layer.specs.StoredTree.{first}
+use Rattle.table.specs.Rules.{labelLimit}
 use Rattle.growth.specs.Plan.{isLabel}
 use Rattle.link_laws.specs.Link.{Linkable, target}
 use Rattle.link_laws.specs.LinkLaws.{link-stored}
@@ -27,13 +28,13 @@ use Rattle.link.specs.Link.{Result, result, linkBy}
 use Rattle.link_exact.specs.LinkServed.{LinkedExactly, link-misfit, link-unknown-x, link-unknown-v, link-label, link-not-root, link-same-tree, link-served}
 use Rattle.plain_list.specs.PlainList.{PlainList, countOf, parentOf, withLink}
 use Rattle.plain_list.specs.PlainListLaws.{link-count, link-parent-root, link-parent-other}
-use Rattle.plain_list.specs.PlainStep.{refused as plainRefused, linked as plainLinked, link as plainLink, refusalOf, rootIn, treeCount, plainOutcome}
+use Rattle.plain_list.specs.PlainStep.{refusal as plainRefusal, linked as plainLinked, link as plainLink, refusalOf, rootIn, treeCount, plainOutcome}
 use Rattle.plain_list.specs.PlainStepLaws as plainly
 use Rattle.plain_list.specs.Proper.{root-own, proper-link}
 use Rattle.plain_list.specs.Shows.{shows-link}
 use Rattle.plain_list.specs.StoredList.{StoredList, relinked}
 use Rattle.plain_list.specs.Stores.{Stores, stores-link}
-use Rattle.sequence.specs.Calls.{link, refused}
+use Rattle.sequence.specs.Calls.{link, refusal}
 use Rattle.sequence.specs.Run.{Fast, tableIn, Turn, linkReply, afterLink, rowsIn, step}
 use Rattle.sequence.specs.Agrees.{links}
 use Rattle.sequence.specs.Invariant.{Stands}
@@ -46,19 +47,19 @@ module _ {c : ℕ} {f : Fast} {p : PlainList} {stored : StoredList} {total joine
   -- The tree of a root x
 
   module _ (h : x < countOf p) (top : parentOf p x ≡ none) where
-    own-tree : {w : ℕ} → w < countOf p → rootIn p w ≡ x → first (tableIn f) w ≡ first (tableIn f) x
+    own-tree : {w : ℕ} → w < countOf p → rootIn p w ≡ x → first (tableIn f .layer) w ≡ first (tableIn f .layer) x
     own-tree l e = roots-tree s l h (e ∙ sym (root-own (s .proper) x h top))
 
-    tree-own : {w : ℕ} → w < countOf p → first (tableIn f) w ≡ first (tableIn f) x → rootIn p w ≡ x
+    tree-own : {w : ℕ} → w < countOf p → first (tableIn f .layer) w ≡ first (tableIn f .layer) x → rootIn p w ≡ x
     tree-own l e = tree-roots s l h e ∙ root-own (s .proper) x h top
 
     -- it has as many nodes in the list as rows in the table
-    tree-count : treeCount p x ≡ treeRows (tableIn f) x
+    tree-count : treeCount p x ≡ treeRows (tableIn f .layer) x
     unfolding treeCount
     tree-count =
-        sum-eq (λ w. bit (eqb (rootIn p w) x)) (λ w. bit (isOfTree (tableIn f) x w)) (countOf p)
-        (λ w l. ap bit (says-eq (own-tree l) (tree-own l) (says-eqb (rootIn p w) x) (says-eqb (first (tableIn f) w) (first (tableIn f) x))))
-        ∙ ap (countTo (isOfTree (tableIn f) x)) (s .count)
+        sum-eq (λ w. bit (eqb (rootIn p w) x)) (λ w. bit (isOfTree (tableIn f .layer) x w)) (countOf p)
+        (λ w l. ap bit (says-eq (own-tree l) (tree-own l) (says-eqb (rootIn p w) x) (says-eqb (first (tableIn f .layer) w) (first (tableIn f .layer) x))))
+        ∙ ap (countTo (isOfTree (tableIn f .layer) x)) (s .count)
 
   -- Served
 
@@ -111,7 +112,7 @@ module _ {c : ℕ} {f : Fast} {p : PlainList} {stored : StoredList} {total joine
         ]
 
         -- the linked rows stand under their plain parents, the others where they stood
-        after : Stores (parent (tableOf (o .parts) (f .state .count))) (f .state .count) (tabulate (relinked p stored x v door) (length stored))
+        after : Stores (parent (tableOf (o .parts) (f .state .count) .layer)) (f .state .count) (tabulate (relinked p stored x v door) (length stored))
         after =
             let q = link-stored (s .rules) (s .fits .most) (e .linked) in
             stores-link (s .stored) p x v door
@@ -131,7 +132,7 @@ module _ {c : ℕ} {f : Fast} {p : PlainList} {stored : StoredList} {total joine
         → linkBy (f .parts) (length scratch) (f .state) x v door ≡ result (f .parts) (notLinked r)
         → StepStands c f p stored total joined (link x v door scratch) (plainOutcome c p (plainLink x v door (length scratch))) (step f (link x v door scratch))
     unfolding step
-    link-refused r e i = steps-by s (link x v door scratch) (plainRefused (numberOf r)) (refused (numberOf r)) e
+    link-refused r e i = steps-by s (link x v door scratch) (plainRefusal (numberOf r)) (refusal (numberOf r)) e
         (ap (afterLink (f .state)) i) (still-refused s (link x v door scratch) (numberOf r))
 
     -- a link of known nodes

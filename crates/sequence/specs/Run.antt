@@ -2,21 +2,21 @@
 use mathlib.Core.List.{List, [], _∷_}
 use Prim.Native.Nat.{ℕ, _+_}
 use lib.ListN.{length}
-use Rattle.rows.specs.declared.state.State.{State}
-use Rattle.rows.specs.Row.{Parts}
-use Rattle.rows.specs.Table.{Table, tableOf}
+use Rattle.table.specs.declared.state.State.{State}
+use Rattle.table.specs.Parts.{Parts}
+use Rattle.table.specs.Table.{Table, tableOf}
 use Rattle.set_up.specs.Blank.{partsAfter}
-use Rattle.growth.specs.Outcome.{Outcome as GrowthOutcome, refusal as notGrown, node}
+use Rattle.growth.specs.Outcome.{Outcome as GrowthOutcome, refusal as notGrown, node as newNode}
 use Rattle.growth.specs.Growth.{Result as Growth, addFirst, addLeaf, addRoot, addOver}
-use Rattle.link.specs.Outcome.{Outcome as LinkOutcome, refusal as notLinked, under}
+use Rattle.link.specs.Outcome.{Outcome as LinkOutcome, refusal as notLinked, linked as treeLinked}
 use Rattle.link.specs.Link.{Result as Link, linkBy}
-use Rattle.query.specs.Outcome.{Outcome as QuestionOutcome, refusal as noAnswer, answer}
+use Rattle.query.specs.Outcome.{Outcome as QuestionOutcome, refusal as noAnswer, answered as questionAnswered}
 use Rattle.query.specs.Question.{question as ask}
-use Rattle.alike.specs.Outcome.{Outcome as AlikeOutcome, refusal as noValue, value}
+use Rattle.alike.specs.Outcome.{Outcome as AlikeOutcome, refusal as noValue, same as alikeSame}
 use Rattle.alike.specs.Alike.{alike as compare}
-use Rattle.inspect.specs.Outcome.{Outcome as InspectionOutcome, refusal as notInspected, passes}
+use Rattle.inspect.specs.Outcome.{Outcome as InspectionOutcome, refusal as notInspected, passes as inspectionPasses}
 use Rattle.inspect.specs.Inspection.{inspection as inspect}
-use Rattle.sequence.specs.Calls.{Call, first, leaf, root, rootOver, link, question, alike, inspection, Reply, refused, grown, linked, answered, same, inspected}
+use Rattle.sequence.specs.Calls.{Call, first, leaf, root, rootOver, link, question, alike, inspection, Reply, refusal, node, linked, answered, same, passes}
 
 -- the lent parts, with their count
 pub record Fast : Type 0 where
@@ -42,35 +42,35 @@ replies f r = record { reply = r; after = f }
 
 -- a growth: the count as it returned it, after a refusal as it went in
 abbrev pub grownReply : GrowthOutcome → Reply
-grownReply (notGrown n) = refused n
-grownReply (node c n k) = grown n k
+grownReply (notGrown n) = refusal n
+grownReply (newNode c n k) = node n k
 
 abbrev pub stateAfter : State → GrowthOutcome → State
 stateAfter s (notGrown n) = s
-stateAfter s (node c n k) = record { count = c }
+stateAfter s (newNode c n k) = record { count = c }
 
 abbrev pub afterGrowth : State → Growth → Turn
 afterGrowth s g = record { reply = grownReply (g .outcome); after = record { parts = g .parts; state = stateAfter s (g .outcome) } }
 
 -- a link keeps the count
 abbrev pub linkReply : LinkOutcome → Reply
-linkReply (notLinked n) = refused n
-linkReply (under k) = linked k
+linkReply (notLinked n) = refusal n
+linkReply (treeLinked k) = linked k
 
 abbrev pub afterLink : State → Link → Turn
 afterLink s l = record { reply = linkReply (l .outcome); after = record { parts = l .parts; state = s } }
 
 abbrev pub questionReply : QuestionOutcome → Reply
-questionReply (noAnswer n) = refused n
-questionReply (answer a u v i j l) = answered a u v i j l
+questionReply (noAnswer n) = refusal n
+questionReply (questionAnswered a u v i j l) = answered a u v i j l
 
 abbrev pub alikeReply : AlikeOutcome → Reply
-alikeReply (noValue n) = refused n
-alikeReply (value b) = same b
+alikeReply (noValue n) = refusal n
+alikeReply (alikeSame b) = same b
 
 abbrev pub inspectionReply : InspectionOutcome → Reply
-inspectionReply (notInspected n) = refused n
-inspectionReply (passes b) = inspected b
+inspectionReply (notInspected n) = refusal n
+inspectionReply (inspectionPasses b) = passes b
 
 -- one call
 unfoldable pub step : Fast → Call → Turn
@@ -95,12 +95,12 @@ run f (q ∷ qs) = let rest = run (step f q .after) qs in record { replies = ste
 
 -- the rows that a reply says were renumbered
 abbrev pub rowsIn : Reply → ℕ
-rowsIn (refused n) = 0
-rowsIn (grown n k) = k
+rowsIn (refusal n) = 0
+rowsIn (node n k) = k
 rowsIn (linked k) = k
 rowsIn (answered a u v i j l) = 0
 rowsIn (same b) = 0
-rowsIn (inspected b) = 0
+rowsIn (passes b) = 0
 
 -- and all replies of a list
 unfoldable pub totalIn : List Reply → ℕ

@@ -4,11 +4,11 @@ use mathlib.Core.Path.{_≡_}
 use mathlib.Core.List.{List, [], _∷_}
 use Prim.Native.Nat.{ℕ, _+_, _*_, _≤_}
 use native.Mathlib.Omega.{arith}
-use Rattle.rows.specs.Row.{Parts}
-use Rattle.rows.specs.Capacity.{Fits}
-use Rattle.rows.specs.Rules.{Rules}
-use Rattle.rows.specs.Table.{label, parent}
-use Rattle.rows.specs.PlainTree.{plain}
+use Rattle.table.specs.Parts.{Parts}
+use Rattle.table.specs.Capacity.{Fits}
+use Rattle.table.specs.Rules.{Rules}
+use Rattle.layer.specs.Layer.{parent}
+use Rattle.table.specs.PlainTree.{plain}
 use Rattle.set_up.specs.Outcome.{empty}
 use Rattle.set_up.specs.Blank.{setUp}
 use Rattle.set_up.specs.BlankLaws.{set-up-served}
@@ -53,8 +53,8 @@ pub record SequenceExact (c : ℕ) (parts : Parts) (calls : List Call) : Type 0 
   pub fits : Fits c (run (start parts) calls .last .parts)
   pub rules : Rules c (tableIn (run (start parts) calls .last))
   pub count : countOf (plainRun c emptyList (toldAll calls) .last) ≡ run (start parts) calls .last .state .count
-  pub shows : Shows (plain (tableIn (run (start parts) calls .last))) (label (tableIn (run (start parts) calls .last))) (plainRun c emptyList (toldAll calls) .last)
-  pub stored : Stores (parent (tableIn (run (start parts) calls .last))) (run (start parts) calls .last .state .count)
+  pub shows : Shows (plain (tableIn (run (start parts) calls .last))) (tableIn (run (start parts) calls .last) .label) (plainRun c emptyList (toldAll calls) .last)
+  pub stored : Stores (parent (tableIn (run (start parts) calls .last) .layer)) (run (start parts) calls .last .state .count)
       (storedRun c emptyList [] (toldAll calls))
 
 -- One call

@@ -4,11 +4,12 @@ use mathlib.Core.Logic.{_≢_}
 use mathlib.Core.List.{List}
 use Prim.Native.Nat.{ℕ, _+_}
 use native.Mathlib.Omega.{arith}
-use Rattle.rows.specs.Row.{Parts}
-use Rattle.rows.specs.Table.{Table, parent}
-use Rattle.rows.specs.PlainTree.{root as rootOf}
-use Rattle.rows.specs.Capacity.{Fits}
-use Rattle.rows.specs.declared.state.State.{State}
+use Rattle.table.specs.Parts.{Parts}
+use Rattle.table.specs.Table.{Table}
+use Rattle.layer.specs.Layer.{parent}
+use Rattle.table.specs.PlainTree.{root as rootOf}
+use Rattle.table.specs.Capacity.{Fits}
+use Rattle.table.specs.declared.state.State.{State}
 use Rattle.query.specs.FewRows.{DrawsOn}
 use Rattle.query.specs.FewRowsLaws.{question-few-rows}
 use Rattle.growth_laws.specs.Growth.{Growth, leaf as newLeaf, root as newRoot}
@@ -18,7 +19,7 @@ use Rattle.plain_list.specs.PlainList.{PlainList}
 use Rattle.plain_list.specs.PlainStep.{PlainCall, PlainReply, PlainOutcome, replies as plainReplies}
 use Rattle.plain_list.specs.StoredList.{StoredList, storedBelow, storedBy}
 use Rattle.plain_list.specs.Stores.{Stores}
-use Rattle.sequence.specs.Calls.{Call, first, leaf, root, rootOver, link, question, Reply, refused, grown, linked, told}
+use Rattle.sequence.specs.Calls.{Call, first, leaf, root, rootOver, link, question, Reply, refusal, node, linked, told}
 use Rattle.sequence.specs.Run.{Fast, tableIn, Turn, replies, rowsIn}
 use Rattle.sequence.specs.Agrees.{Agrees, refusals, nodes, links, answers, alikes, pass}
 use Rattle.sequence.specs.Invariant.{Stands}
@@ -32,7 +33,7 @@ pub data Asks (t : Table) : Call → Growth → Type 0 where
 -- a call that begins a tree; 01's new root does where there is no node
 pub data Begins (t : Table) : Call → Type 0 where
   begins-first : {s : List ℕ} → Begins t (first s)
-  begins-root : {s : List ℕ} → t .count ≡ 0 → Begins t (root s)
+  begins-root : {s : List ℕ} → t .layer .count ≡ 0 → Begins t (root s)
 
 -- by call q table t became table d, and k is how many rows were renumbered; l is the stored list after the call
 pub data Renumbers (l : StoredList) (t d : Table) (k : ℕ) : Call → Type 0 where
@@ -54,13 +55,13 @@ pub record StepExact (c : ℕ) (f : Fast) (l : StoredList) (q : Call) (o : Plain
   -- a question draws on few rows
   pub few : (x y : ℕ) → q ≡ question x y → DrawsOn mostRows c (f .parts) (f .state) x y
   -- a served growth renumbers its head and all rows below it in the stored tree, a first node itself, and it answers how many these are
-  pub renumbers : (n k : ℕ) → u .reply ≡ grown n k → Renumbers l (tableIn f) (tableIn (u .after)) k q
+  pub renumbers : (n k : ℕ) → u .reply ≡ node n k → Renumbers l (tableIn f) (tableIn (u .after)) k q
   -- and so does a served link
   pub links : (k : ℕ) → u .reply ≡ linked k → Renumbers l (tableIn f) (tableIn (u .after)) k q
   -- the stored parents of the table are then the stored list's
-  pub stored : Stores (parent (tableIn (u .after))) (u .after .state .count) l
+  pub stored : Stores (parent (tableIn (u .after) .layer)) (u .after .state .count) l
   -- a refusal leaves parts and count as they went in
-  pub kept : (n : ℕ) → u .reply ≡ refused n → u .after ≡ f
+  pub kept : (n : ℕ) → u .reply ≡ refusal n → u .after ≡ f
 
 -- the same, and the table stands beside the lists again, which were p and l before
 pub record StepStands (c : ℕ) (f : Fast) (p : PlainList) (l : StoredList) (total joinings : ℕ) (q : Call) (o : PlainOutcome) (u : Turn) : Type 0 where
@@ -73,7 +74,7 @@ pub few-rows : {c : ℕ} (a : Parts) → Fits c a → (s : State) (x y : ℕ) �
 few-rows a f s x y = let d = question-few-rows a f s x y in record { rows = d .rows; few = omega (arith, d .few); decide = d .decide }
 
 -- a reply that tells of no node and of no link leaves the stored list as it is
-kept-stored : {r : PlainReply} {u : Reply} (p : PlainList) (l : StoredList) (q : PlainCall) → Agrees r u → ((n k : ℕ) → u ≢ grown n k)
+kept-stored : {r : PlainReply} {u : Reply} (p : PlainList) (l : StoredList) (q : PlainCall) → Agrees r u → ((n k : ℕ) → u ≢ node n k)
     → ((k : ℕ) → u ≢ linked k) → l ≡ storedBy p l q r
 kept-stored p l q (refusals n) d i = refl
 kept-stored p l q (nodes n k) d i = absurd (d n k refl)
@@ -84,7 +85,7 @@ kept-stored p l q pass d i = refl
 
 -- a call that changes nothing and renumbers nothing
 pub still : {c : ℕ} {f : Fast} {p : PlainList} {l : StoredList} {total joinings : ℕ} → Stands c f p l total joinings → (q : Call) {r : PlainReply} {u : Reply}
-    → Agrees r u → rowsIn u ≡ 0 → ((n k : ℕ) → u ≢ grown n k) → ((k : ℕ) → u ≢ linked k)
+    → Agrees r u → rowsIn u ≡ 0 → ((n k : ℕ) → u ≢ node n k) → ((k : ℕ) → u ≢ linked k)
     → StepStands c f p l total joinings q (plainReplies r p) (replies f u)
 still {c} {f} {p} {l} {total} {joinings} s q {r} {u} a z d i = record {
   exact = record {
@@ -106,5 +107,5 @@ still {c} {f} {p} {l} {total} {joinings} s q {r} {u} a z d i = record {
   };
 }
   where
-    same : Stores (parent (tableIn f)) (f .state .count) (storedBy p l (told q) r)
+    same : Stores (parent (tableIn f .layer)) (f .state .count) (storedBy p l (told q) r)
     same = rw (kept-stored p l (told q) a d i) at (s .stored)

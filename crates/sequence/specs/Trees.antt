@@ -3,12 +3,13 @@ use mathlib.Core.Path.{_≡_, sym, ap, _∙_}
 use Prim.Native.Nat.{ℕ, _<_}
 use native.Mathlib.Omega.{arith}
 use Rattle.tree_laws.specs.Ancestor.{none}
-use Rattle.rows.specs.PlainTree.{first, root, plain}
-use Rattle.rows.specs.Rules.{numbered}
-use Rattle.numbering.specs.Numbered.{in-tree, first-is}
-use Rattle.numbering.specs.Lines.{root-in}
-use Rattle.numbering.specs.PlainRoot.{plain-root, root-plain}
-use Rattle.question.specs.PlainShape.{kindred-first, first-kindred}
+use Rattle.layer.specs.StoredTree.{first}
+use Rattle.table.specs.PlainTree.{root, plain}
+use Rattle.table.specs.Rules.{numbered}
+use Rattle.layer_laws.specs.Numbered.{in-tree, first-is}
+use Rattle.table_laws.specs.Lines.{root-in}
+use Rattle.table_laws.specs.PlainRoot.{plain-root, root-plain}
+use Rattle.query_exact.specs.PlainShape.{kindred-first, first-kindred}
 use Rattle.plain_list.specs.PlainList.{PlainList, countOf, parentOf}
 use Rattle.plain_list.specs.PlainStep.{rootIn}
 use Rattle.plain_list.specs.Proper.{root-own}
@@ -26,10 +27,10 @@ module _ {c : ℕ} {f : Fast} {p : PlainList} {stored : StoredList} {total joini
   known l = omega (arith, s .count)
 
   -- one tree in the table is one root in the list
-  pub tree-roots : {x y : ℕ} → x < countOf p → y < countOf p → first (tableIn f) x ≡ first (tableIn f) y → rootIn p x ≡ rootIn p y
+  pub tree-roots : {x y : ℕ} → x < countOf p → y < countOf p → first (tableIn f .layer) x ≡ first (tableIn f .layer) y → rootIn p x ≡ rootIn p y
   tree-roots l m e = kindred-roots (s .proper) (s .shows) l m (first-kindred (s .rules) (s .fits .most) (in-use l) (in-use m) e)
 
-  pub roots-tree : {x y : ℕ} → x < countOf p → y < countOf p → rootIn p x ≡ rootIn p y → first (tableIn f) x ≡ first (tableIn f) y
+  pub roots-tree : {x y : ℕ} → x < countOf p → y < countOf p → rootIn p x ≡ rootIn p y → first (tableIn f .layer) x ≡ first (tableIn f .layer) y
   roots-tree l m e = kindred-first (s .rules) (s .fits .most) (in-use l) (in-use m) (roots-kindred (s .proper) (s .shows) l m e)
 
   -- a root in the table is one in the list
@@ -46,6 +47,6 @@ module _ {c : ℕ} {f : Fast} {p : PlainList} {stored : StoredList} {total joini
   pub root-shown : (x : ℕ) → x < countOf p → rootIn p x ≡ root (tableIn f) x
   root-shown x l =
       let n = numbered (s .rules) (s .fits .most) in
-      let e : first (tableIn f) (root (tableIn f) x) ≡ first (tableIn f) x = first-is n (root-in (s .rules) (s .fits .most) (in-tree n x (in-use l))) in
+      let e : first (tableIn f .layer) (root (tableIn f) x) ≡ first (tableIn f .layer) x = first-is n (root-in (s .rules) (s .fits .most) (in-tree n x (in-use l))) in
       let k = root-known x l in
       tree-roots l k (sym e) ∙ root-own (s .proper) (root (tableIn f) x) k (root-top k (ap (tableIn f .root) e))

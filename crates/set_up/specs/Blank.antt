@@ -7,12 +7,11 @@ use lib.ListN.{length}
 use Rattle.laws.specs.Test.{pick}
 use Rattle.laws.specs.Tabulate.{tabulate}
 use Rattle.tree_laws.specs.Ancestor.{none}
-use Rattle.rows.specs.declared.capacity.Fit.{Fit}
-use Rattle.rows.specs.declared.capacity.Fit.the-variants.{Capacity, Misfit}
-use Rattle.rows.specs.Layout.{fieldStride, sizePlace, rootPlace}
-use Rattle.rows.specs.Row.{Parts}
-use Rattle.rows.specs.Capacity.{capacityOf}
-use Rattle.rows.specs.declared.refusal.Refusal.the-variants as refusals
+use Rattle.layer.specs.Layout.{fieldStride, sizePlace}
+use Rattle.table.specs.Layout.{rootPlace}
+use Rattle.table.specs.Parts.{Parts}
+use Rattle.table.specs.Capacity.{capacityOf, onFit}
+use Rattle.table.specs.declared.refusal.Refusal.the-variants.{Misfit}
 use Rattle.set_up.specs.Outcome.{Outcome, empty, refused}
 
 -- the fields before the size are links, and so is the root
@@ -28,18 +27,10 @@ blank t = record {
   ancestors = tabulate (λ _. none) (length (t .ancestors));
 }
 
--- what set-up answers, by what the parts fit
-abbrev pub made : Fit → Outcome
-made (Capacity c) = empty 0
-made Misfit = refused refusals.Misfit
-
+-- what set-up answers
 unfoldable pub setUp : Parts → Outcome
-setUp t = made (capacityOf t)
+setUp t = onFit (capacityOf t) (λ _. empty 0) (refused Misfit)
 
 -- and what the parts are then
-abbrev pub leaves : Fit → Parts → Parts
-leaves (Capacity c) t = blank t
-leaves Misfit t = t
-
 unfoldable pub partsAfter : Parts → Parts
-partsAfter t = leaves (capacityOf t) t
+partsAfter t = onFit (capacityOf t) (λ _. blank t) t

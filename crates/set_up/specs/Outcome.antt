@@ -1,7 +1,7 @@
 -- What set-up gives in 01's numbers and values, and which of them each case of `Made` stands for.
 use Prim.Native.Nat.{ℕ}
-use Rattle.rows.specs.declared.refusal.Refusal.{Refusal}
-use Rattle.rows.specs.Refusal.{numberOf}
+use Rattle.table.specs.declared.refusal.Refusal.{Refusal}
+use Rattle.table.specs.Refusal.{numberOf}
 use Rattle.set_up.specs.declared.Made.{Made}
 use Rattle.set_up.specs.declared.Made.the-variants.{Empty, Refused}
 

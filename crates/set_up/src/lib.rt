@@ -1,16 +1,16 @@
 // An empty table in lent parts of one capacity.
-use rows::capacity::Fit;
-use rows::layout::FIELDS;
-use rows::layout::NONE;
-use rows::layout::ROOT;
-use rows::layout::SIZE;
-use rows::refusal::Refusal;
-use rows::state::State;
+use layer::layout::FIELDS;
+use layer::layout::NONE;
+use layer::layout::SIZE;
+use table::capacity::Fit;
+use table::layout::ROOT;
+use table::refusal::Refusal;
+use table::state::State;
 ghost use mathlib.Core.Path.{_≡_};
 ghost use lib.ListN.{length};
 ghost use lib.IntN.{pos};
 ghost use Rattle.laws.specs.Tabulate.{tabulate};
-ghost use Rattle.rows.specs.Row.{partsOf};
+ghost use Rattle.table.specs.Parts.{partsOf};
 ghost use Rattle.set_up.specs.Outcome.{outcomeOf};
 ghost use Rattle.set_up.specs.Blank.{blankField, setUp, partsAfter};
 
@@ -83,7 +83,7 @@ pub fn set_up(
     ensures outcome { λ r. ⌜ outcomeOf r ≡ setUp (partsOf (now (fields .entry)) (now (numbers .entry)) (now (levels .entry)) (now (ancestors .entry))) ⌝ }
     ensures after { λ _. ⌜ partsOf (now (fields .exit)) (now (numbers .exit)) (now (levels .exit)) (now (ancestors .exit)) ≡ partsAfter (partsOf (now (fields .entry)) (now (numbers .entry)) (now (levels .entry)) (now (ancestors .entry))) ⌝ }
 {
-    match rows::capacity::capacity(fields, numbers, levels, ancestors) {
+    match table::capacity::capacity(fields, numbers, levels, ancestors) {
         Fit::Misfit => Made::Refused(Refusal::Misfit),
         Fit::Capacity(_) => {
             clear_fields(fields);

@@ -3,11 +3,11 @@ use mathlib.Core.List.{List, [], _∷_, _++_}
 use Prim.Native.Nat.{ℕ, _*_}
 use lib.IntN.{ℤ, pos, negsuc}
 use lib.ListN.{replicate, take}
-use Rattle.rows.specs.Layout.{fieldStride, numberStride, entryStride}
-use Rattle.rows.specs.Row.{Parts, partsOf}
-use Rattle.rows.specs.Table.{start}
-use Rattle.rows.specs.Spans.{p, q, end}
-use Rattle.sequence.specs.Calls.{Call, leaf, root, question, Reply, refused, grown, answered}
+use Rattle.layer.specs.Layout.{fieldStride, numberStride, entryStride}
+use Rattle.table.specs.Parts.{Parts, partsOf}
+use Rattle.layer.specs.Layer.{start}
+use Rattle.layer.specs.Spans.{p, q, end}
+use Rattle.sequence.specs.Calls.{Call, leaf, root, question, Reply, refusal, node, answered}
 use Rattle.sequence.specs.Run.{Run, Fast, tableIn, run, totalIn, start as blankTable}
 
 -- the program's capacity
@@ -32,10 +32,10 @@ pub data Number : Type 0 where
   endOf : ℕ → Number
 
 abbrev pub read : Fast → Number → ℕ
-read f (startOf x) = start (tableIn f) x
-read f (pOf x) = p (tableIn f) x
-read f (qOf x) = q (tableIn f) x
-read f (endOf x) = end (tableIn f) x
+read f (startOf x) = start (tableIn f .layer) x
+read f (pOf x) = p (tableIn f .layer) x
+read f (qOf x) = q (tableIn f .layer) x
+read f (endOf x) = end (tableIn f .layer) x
 
 abbrev pub readAll : Fast → List Number → List ℕ
 readAll f [] = []
@@ -77,10 +77,10 @@ abbrev pub sevenFields : List Call
 sevenFields = threeFields ++ question 1 2 ∷ leaf 5 7 scratch ∷ root scratch ∷ question 2 3 ∷ []
 
 abbrev pub threeReplies : List Reply
-threeReplies = grown 0 1 ∷ grown 1 2 ∷ grown 2 3 ∷ []
+threeReplies = node 0 1 ∷ node 1 2 ∷ node 2 3 ∷ []
 
 abbrev pub sevenReplies : List Reply
-sevenReplies = threeReplies ++ answered 1 1 2 (pos 0) (pos 1) 7 ∷ refused 1 ∷ grown 3 4 ∷ answered 3 0 3 (pos 3) (pos 0) 0 ∷ []
+sevenReplies = threeReplies ++ answered 1 1 2 (pos 0) (pos 1) 7 ∷ refusal 1 ∷ node 3 4 ∷ answered 3 0 3 (pos 3) (pos 0) 0 ∷ []
 
 -- a root and leaves below it
 abbrev pub star : List Call
@@ -109,7 +109,7 @@ cases =
       calls = star;
       asked = startOf 1 ∷ startOf 2 ∷ startOf 3 ∷ startOf 4 ∷ startOf 5 ∷ startOf 6 ∷ [];
       due = record {
-        replies = grown 0 1 ∷ grown 1 2 ∷ grown 2 3 ∷ grown 3 4 ∷ grown 4 5 ∷ grown 5 6 ∷ grown 6 1 ∷ [];
+        replies = node 0 1 ∷ node 1 2 ∷ node 2 3 ∷ node 3 4 ∷ node 4 5 ∷ node 5 6 ∷ node 6 1 ∷ [];
         total = 22;
         levels = pos 0 ∷ pos 1 ∷ pos 1 ∷ pos 1 ∷ pos 1 ∷ pos 1 ∷ pos 1 ∷ [];
         numbers = 1296 ∷ 1301 ∷ 1306 ∷ 1311 ∷ 1316 ∷ 1321 ∷ [];
@@ -136,7 +136,7 @@ cases =
       calls = lightAfterHeavy;
       asked = startOf 4 ∷ startOf 1 ∷ startOf 2 ∷ startOf 3 ∷ [];
       due = record {
-        replies = grown 0 1 ∷ grown 1 2 ∷ grown 2 3 ∷ grown 3 4 ∷ grown 4 5 ∷ [];
+        replies = node 0 1 ∷ node 1 2 ∷ node 2 3 ∷ node 3 4 ∷ node 4 5 ∷ [];
         total = 15;
         levels = pos 0 ∷ pos 1 ∷ pos 2 ∷ pos 2 ∷ pos 1 ∷ [];
         numbers = 625 ∷ 630 ∷ 635 ∷ 640 ∷ [];

@@ -5,9 +5,9 @@ use Rattle.tree_laws.specs.StoredFromCompressed.{pathRow, higher, branchAt}
 use Rattle.span.specs.Numbers.{capped}
 use Rattle.span.specs.Power.{power}
 use Rattle.span.specs.Rank.{rankTo, rankOf}
-use Rattle.rows.specs.Capacity.{fits, capacityOf}
-use Rattle.rows.specs.Sound.{isSound}
-use Rattle.rows.specs.State.{isStanding}
+use Rattle.table.specs.Capacity.{fits, capacityOf}
+use Rattle.layer.specs.Sound.{isSound}
+use Rattle.table.specs.State.{isStanding}
 use Rattle.laws.specs.Tabulate.{tabulate}
 use Rattle.set_up.specs.Blank.{blank, partsAfter}
 use Rattle.renumber.specs.Count.{oneMore}
@@ -29,23 +29,28 @@ use Rattle.renumber.specs.NumberWalk.{
 }
 use Rattle.renumber.specs.Entries.{entriesFrom, aboveOf, withEntries}
 use Rattle.renumber.specs.Renumber.{renumbered}
-use Rattle.join.specs.Good.{isGood}
+use Rattle.layer.specs.Checked.{isRow}
 use Rattle.join.specs.Chain.{outgrownAt, topFrom, raisedAt, raised}
 use Rattle.join.specs.CheckWalk.{isReadable, entered, leftRow, checkTurn, checkWalk}
 use Rattle.join.specs.Copied.{areLinks, copiesLinks}
 use Rattle.join.specs.Attach.{firstOf, firstAfter, nextAfter, parentAfter, newLinks, newValues, linked, attached}
-use Rattle.join.specs.Plan.{upperUnder, upperFor, oldHead, headOf, isFirst, isSeated, isWhole, plannedAt, plannedRow}
+use Rattle.join.specs.Seat.{upperUnder, upperFor, oldHead, headOf, isFirst, isSeated, isWhole, seatAt, seatOf}
+use Rattle.join.specs.Store.{joinedAt}
 use Rattle.join.specs.Lone.{loneFields, loneNumbers, loneEntries}
-use Rattle.join.specs.Store.{recorded, storedBy}
-use Rattle.growth.specs.Level.{levelOf}
+use Rattle.growth.specs.Store.{marked, planStored}
+use Rattle.growth.specs.Level.{levelFrom}
+use Rattle.growth.specs.PlannedRow.{plannedRow}
 use Rattle.growth.specs.Plan.{leafWithin, leafPlan, rootOver, rootWithin, rootPlan}
 use Rattle.growth.specs.Growth.{served, startedFields, started as treeStarted, grownBy, addLeaf, addRoot}
-use Rattle.ancestry.specs.Reading.{isRow, covers}
+use Rattle.ancestry.specs.Reading.{covers}
 use Rattle.ancestry.specs.CompressedStep.{arrive, climb, atEntry, pastEntry, pastReach, pastSpan, sideFrom}
 use Rattle.ancestry.specs.StoredAnswer.{isOnRow, forked, meeting, branchOf, join, between, storedFrom}
 use Rattle.query.specs.Sought.{soughtIn}
-use Rattle.query.specs.PlainAnswer.{isAbove, leadsOn, lowerX, lowerY, lowered, areRows, plainFrom, plainAnswer}
-use Rattle.query.specs.Question.{isServed, served as answerServed, asked, question}
+use Rattle.query.specs.Asked.{asked}
+use Rattle.query.specs.Node.{isNode}
+use Rattle.query.specs.Line.{isMinus}
+use Rattle.query.specs.PlainAnswer.{lowerX, lowerY, isRead, lowered, plainFrom, plainAnswer}
+use Rattle.query.specs.Question.{isServed, served as answerServed, question}
 use Rattle.sequence.specs.Run.{step}
 
 unfoldable pub engine : Unit {0}
@@ -56,10 +61,10 @@ unfolding fourth
     tabulate blank partsAfter
     oneMore turn arrival sizeEntered heavyKept sizeLeft offeredTo sizeTurn sizeWalk lightOrLast siblingOrUp heavyLast placedRow started rowNumbered
     isOnPath upperOf sizeOf numberedDown numberedTo numberWalk entriesFrom aboveOf withEntries renumbered
-    isGood levelOf outgrownAt topFrom raisedAt raised isReadable entered leftRow checkTurn checkWalk areLinks copiesLinks firstOf firstAfter nextAfter parentAfter newLinks
-    newValues linked attached upperUnder upperFor oldHead headOf isFirst isSeated isWhole plannedAt plannedRow leafWithin leafPlan rootOver rootWithin
-    rootPlan loneFields loneNumbers loneEntries recorded storedBy served startedFields treeStarted grownBy addLeaf addRoot
-    soughtIn isRow covers arrive climb atEntry pastEntry pastReach pastSpan sideFrom isOnRow forked meeting branchOf join between storedFrom
-    isAbove leadsOn lowerX lowerY lowered areRows plainFrom plainAnswer isServed answerServed asked question
+    isRow levelFrom outgrownAt topFrom raisedAt raised isReadable entered leftRow checkTurn checkWalk areLinks copiesLinks firstOf firstAfter nextAfter parentAfter newLinks
+    newValues linked attached upperUnder upperFor oldHead headOf isFirst isSeated isWhole seatAt seatOf joinedAt plannedRow leafWithin leafPlan rootOver rootWithin
+    rootPlan loneFields loneNumbers loneEntries marked planStored served startedFields treeStarted grownBy addLeaf addRoot
+    soughtIn covers arrive climb atEntry pastEntry pastReach pastSpan sideFrom isOnRow forked meeting branchOf join between storedFrom
+    isNode isMinus lowerX lowerY isRead lowered plainFrom plainAnswer isServed answerServed asked question
     step
 engine = tt

@@ -5,8 +5,8 @@ use Prim.Native.Char.{code}
 use lib.IntN.{ℤ, pos}
 use lib.ListN.{take}
 use Rattle.lines.specs.Line.{lineOf}
-use Rattle.rows.specs.Row.{levelAt}
-use Rattle.sequence.specs.Calls.{Call, first, leaf, root, rootOver, link, question, alike, inspection, Reply, refused, grown, linked, answered, same, inspected}
+use Rattle.table.specs.Parts.{levelAt}
+use Rattle.sequence.specs.Calls.{Call, first, leaf, root, rootOver, link, question, alike, inspection, Reply, refusal, node, linked, answered, same, passes}
 use Rattle.sequence.specs.Run.{Turn}
 use Rattle.transcript.specs.declared.reply.Shown.{Shown}
 
@@ -22,17 +22,17 @@ abbrev pub alikeLetter : ℕ
 alikeLetter = code "A"
 
 -- a refusal prints R and its number
-abbrev pub refusal : ℕ → Printed
-refusal n = record { letter = code "R"; values = pos n ∷ [] }
+abbrev pub printedRefusal : ℕ → Printed
+printedRefusal n = record { letter = code "R"; values = pos n ∷ [] }
 
 -- a reply to a call that prints this letter where it is served; a growth prints the new node, its level and the rows renumbered
 abbrev pub printed : ℕ → (ℕ → ℤ) → Reply → Printed
-printed letter level (refused n) = refusal n
-printed letter level (grown n rows) = record { letter = letter; values = pos n ∷ level n ∷ pos rows ∷ [] }
+printed letter level (refusal n) = printedRefusal n
+printed letter level (node n rows) = record { letter = letter; values = pos n ∷ level n ∷ pos rows ∷ [] }
 printed letter level (linked rows) = record { letter = letter; values = pos rows ∷ [] }
 printed letter level (answered a u v i j l) = record { letter = letter; values = pos a ∷ pos u ∷ pos v ∷ i ∷ j ∷ pos l ∷ [] }
 printed letter level (same b) = record { letter = letter; values = pos b ∷ [] }
-printed letter level (inspected b) = record { letter = letter; values = [] }
+printed letter level (passes b) = record { letter = letter; values = [] }
 
 -- the letters; no field asks for the other calls
 abbrev pub unasked : ℕ

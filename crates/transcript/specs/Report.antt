@@ -1,7 +1,7 @@
 -- What a call on the table prints, renumbers and leaves, by the very definitions that the calls' contracts name.
 use Prim.Native.Nat.{ℕ}
-use Rattle.rows.specs.Row.{Parts}
-use Rattle.rows.specs.declared.state.State.{State}
+use Rattle.table.specs.Parts.{Parts}
+use Rattle.table.specs.declared.state.State.{State}
 use Rattle.sequence.specs.Calls.{Call}
 use Rattle.sequence.specs.Run.{Fast, Turn, step, rowsIn}
 use Rattle.transcript.specs.declared.serve.Served.{Served}

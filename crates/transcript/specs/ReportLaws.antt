@@ -4,13 +4,13 @@ use mathlib.Core.List.{List, []}
 use lib.IntN.{ℤ}
 use Prim.Native.Nat.{ℕ}
 use lib.ListN.{length}
-use Rattle.rows.specs.Row.{Parts, levelAt}
-use Rattle.rows.specs.declared.state.State.{State}
+use Rattle.table.specs.Parts.{Parts, levelAt}
+use Rattle.table.specs.declared.state.State.{State}
 use Rattle.growth.specs.Outcome.{Outcome}
 use Rattle.growth.specs.Growth.{result, addLeaf, addRoot}
-use Rattle.query.specs.Outcome.{Outcome as QuestionOutcome, refusal as noAnswer, answer}
+use Rattle.query.specs.Outcome.{Outcome as QuestionOutcome, refusal as noAnswer, answered}
 use Rattle.query.specs.Question.{question as ask}
-use Rattle.alike.specs.Outcome.{Outcome as AlikeOutcome, refusal as noValue, value}
+use Rattle.alike.specs.Outcome.{Outcome as AlikeOutcome, refusal as noValue, same}
 use Rattle.alike.specs.Alike.{alike as compare}
 use Rattle.sequence.specs.Calls.{Call, leaf, root, question, alike}
 use Rattle.sequence.specs.Run.{step, rowsIn, grownReply, stateAfter, afterGrowth, questionReply, alikeReply}
@@ -44,19 +44,19 @@ module _ (t u : Parts) (s : State) (g : Outcome) (r : Served) where
 
 question-levels : (level : ℕ → ℤ) (o : QuestionOutcome) → printed questionLetter (levelAt []) (questionReply o) ≡ printed questionLetter level (questionReply o)
 question-levels level (noAnswer n) = refl
-question-levels level (answer a u v i j l) = refl
+question-levels level (answered a u v i j l) = refl
 
 question-rows : (o : QuestionOutcome) → 0 ≡ rowsIn (questionReply o)
 question-rows (noAnswer n) = refl
-question-rows (answer a u v i j l) = refl
+question-rows (answered a u v i j l) = refl
 
 alike-levels : (level : ℕ → ℤ) (o : AlikeOutcome) → printed alikeLetter (levelAt []) (alikeReply o) ≡ printed alikeLetter level (alikeReply o)
 alike-levels level (noValue n) = refl
-alike-levels level (value b) = refl
+alike-levels level (same b) = refl
 
 alike-rows : (o : AlikeOutcome) → 0 ≡ rowsIn (alikeReply o)
 alike-rows (noValue n) = refl
-alike-rows (value b) = refl
+alike-rows (same b) = refl
 
 module _ (t : Parts) (s : State) (x y : ℕ) (shown : Shown) where
   -- the code's answer where nothing changed

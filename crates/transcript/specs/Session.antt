@@ -4,14 +4,14 @@ use mathlib.Core.List.{List, []}
 use Prim.Native.Nat.{ℕ, _+_}
 use lib.Dec.{eqb}
 use lib.ListN.{take}
-use Rattle.log.specs.Outcome.{Outcome, end, refusal as refused, field}
+use Rattle.log.specs.Outcome.{Outcome, end, refusal, field}
 use Rattle.log.specs.Field.{fieldAt}
 use Rattle.lines.specs.declared.Text.{Text}
-use Rattle.rows.specs.Row.{Parts}
+use Rattle.table.specs.Parts.{Parts}
 use Rattle.sequence.specs.Run.{Fast}
 use Rattle.transcript.specs.declared.turn.Reading.{Reading}
 use Rattle.transcript.specs.declared.turn.Turn.{Turn}
-use Rattle.transcript.specs.Printed.{refusal, printedLine}
+use Rattle.transcript.specs.Printed.{printedRefusal, printedLine}
 use Rattle.transcript.specs.Asked.{Asked, call, nothing, askedBy}
 use Rattle.transcript.specs.Report.{Report, report, fastOf}
 
@@ -48,7 +48,7 @@ filled s next = silent s next (s .ordinal + 1) true
 abbrev pub refusedField : Session → ℕ → ℕ → Step
 refusedField s n next =
     record {
-      text = printedLine (s .ordinal) (refusal n);
+      text = printedLine (s .ordinal) (printedRefusal n);
       after = record { place = next; ordinal = s .ordinal + 1; total = s .total; fast = s .fast; on = not (eqb n 8) };
     }
 
@@ -62,7 +62,7 @@ wholeField s next nothing = filled s next
 
 abbrev pub stepBy : List ℕ → Session → Outcome → Step
 stepBy scratch s end = ended s
-stepBy scratch s (refused n next) = refusedField s n next
+stepBy scratch s (refusal n next) = refusedField s n next
 stepBy scratch s (field tag v next) = wholeField s next (askedBy scratch tag v)
 
 -- the next field of a log

@@ -13,11 +13,11 @@ use Rattle.lines.specs.Line.{lineOf}
 use Rattle.log.specs.declared.Field.{Field}
 use Rattle.log.specs.Outcome.{outcomeOf}
 use Rattle.log.specs.Field.{fieldAt}
-use Rattle.rows.specs.Row.{Parts}
+use Rattle.table.specs.Parts.{Parts}
 use Rattle.transcript.specs.declared.reply.Shown.{Shown}
 use Rattle.transcript.specs.declared.serve.Served.{Served}
 use Rattle.transcript.specs.declared.turn.Reading.{Reading}
-use Rattle.transcript.specs.Printed.{printedOf, refusal, printedLine}
+use Rattle.transcript.specs.Printed.{printedOf, printedRefusal, printedLine}
 use Rattle.transcript.specs.Bounds.{Holds}
 use Rattle.transcript.specs.Report.{Report, reportOf}
 use Rattle.transcript.specs.Session.{Session, Step, reported, refusedField, stepBy, stepOf, sessionOf, written, turnOf}
@@ -39,7 +39,7 @@ module _ (t : Parts) (text : Text) (r : Reading) (next : ℕ) where
       ≡ reported (r .ordinal) (r .total) next (reportOf t served)
   served-step served e = rw (written-text text _ e)
 
-  pub refused-step : (n : ℕ) (shown : Shown) → printedOf shown ≡ refusal n
+  pub refused-step : (n : ℕ) (shown : Shown) → printedOf shown ≡ printedRefusal n
       → text ≡ textOf (lineOf (r .ordinal) (shown .letter) (take (shown .count) (shown .values)))
       → turnOf t (record { text = text; reading = record { place = next; ordinal = r .ordinal + 1; total = r .total; state = r .state; on = not (eqb n 8) } })
       ≡ refusedField (sessionOf t r) n next

@@ -6,8 +6,8 @@ use lib.IntN.{pos}
 use lib.ListN.{length, replicate}
 use Rattle.laws.specs.Test.{pick}
 use Rattle.lines.specs.Line.{headerLine, endLine}
-use Rattle.rows.specs.Layout.{fieldStride, numberStride, entryStride}
-use Rattle.rows.specs.Row.{Parts, partsOf}
+use Rattle.layer.specs.Layout.{fieldStride, numberStride, entryStride}
+use Rattle.table.specs.Parts.{Parts, partsOf}
 use Rattle.sequence.specs.Run.{start}
 use Rattle.transcript.specs.Session.{Session, stepOf}
 

@@ -5,7 +5,7 @@ use mathlib.Core.List.{List, _++_, append-assoc, append-nil}
 use Prim.Native.Nat.{ℕ, zero, suc, _+_, _*_, _≤_, _<_}
 use native.Mathlib.Omega.{arith}
 use lib.ListN.{length, take}
-use Rattle.rows.specs.Row.{Parts}
+use Rattle.table.specs.Parts.{Parts}
 use Rattle.transcript.specs.declared.turn.Reading.{Reading}
 use Rattle.transcript.specs.declared.turn.Turn.{Turn}
 use Rattle.transcript.specs.Bounds.{Small, Grows, logLimit}

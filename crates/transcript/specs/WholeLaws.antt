@@ -9,11 +9,11 @@ use lib.ListN.{length-replicate}
 use Rattle.lines.specs.declared.Text.{Text}
 use Rattle.lines.specs.Text.{textOf}
 use Rattle.lines.specs.Line.{headerLine, endLine}
-use Rattle.rows.specs.declared.refusal.Refusal.{Refusal}
-use Rattle.rows.specs.declared.state.State.{State}
-use Rattle.rows.specs.Layout.{fieldStride, numberStride, entryStride}
-use Rattle.rows.specs.Row.{Parts}
-use Rattle.rows.specs.Capacity.{Fits}
+use Rattle.table.specs.declared.refusal.Refusal.{Refusal}
+use Rattle.table.specs.declared.state.State.{State}
+use Rattle.layer.specs.Layout.{fieldStride, numberStride, entryStride}
+use Rattle.table.specs.Parts.{Parts}
+use Rattle.table.specs.Capacity.{Fits}
 use Rattle.set_up.specs.declared.Made.{Made}
 use Rattle.set_up.specs.declared.Made.the-variants.{Empty, Refused}
 use Rattle.set_up.specs.Outcome.{Outcome, refusal, empty, outcomeOf}

@@ -2,17 +2,17 @@
 use alike::Compared;
 use growth::Grown;
 use query::Answered;
-use rows::refusal::number_of;
-use rows::row::level;
+use table::level::level;
+use table::refusal::number_of;
 ghost use mathlib.Core.Path.{_≡_};
 ghost use mathlib.Core.List.{[], _∷_};
 ghost use lib.IntN.{pos};
-ghost use Rattle.rows.specs.Row.{levelAt};
+ghost use Rattle.table.specs.Parts.{levelAt};
 ghost use Rattle.growth.specs.Outcome.{outcomeOf as growthOf};
 ghost use Rattle.query.specs.Outcome.{outcomeOf as answerOf};
 ghost use Rattle.alike.specs.Outcome.{outcomeOf as sameOf};
 ghost use Rattle.sequence.specs.Run.{grownReply, questionReply, alikeReply};
-ghost use Rattle.transcript.specs.Printed.{alikeLetter, printed, printedOf, questionLetter, refusal};
+ghost use Rattle.transcript.specs.Printed.{alikeLetter, printed, printedOf, questionLetter, printedRefusal};
 
 // A letter and the first of six values.
 pub struct Shown {
@@ -39,7 +39,7 @@ fn first_of(letter: u8, count: usize, a: i32, b: i32, c: i32, d: i32, e: i32, f:
 
 // R and the refusal's number.
 pub fn refused(n: u16) -> Shown
-    ensures { λ r. ⌜ printedOf r ≡ refusal n ⌝ }
+    ensures { λ r. ⌜ printedOf r ≡ printedRefusal n ⌝ }
 {
     first_of(b'R', 1, value(n), 0, 0, 0, 0, 0)
 }

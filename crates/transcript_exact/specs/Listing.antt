@@ -10,12 +10,12 @@ use Rattle.log.specs.Outcome.{end, refusal as refusedAt, field}
 use Rattle.log.specs.Field.{fieldAt}
 use Rattle.lines.specs.Line.{headerLine, endLine}
 use Rattle.plain_list.specs.PlainList.{PlainList, emptyList, countOf}
-use Rattle.plain_list.specs.PlainStep.{PlainReply, refused as plainRefused, node, linked as plainLinked, answered as plainAnswered, same as plainSame, passes}
+use Rattle.plain_list.specs.PlainStep.{PlainReply, refusal as plainRefusal, node as plainNode, linked as plainLinked, answered as plainAnswered, same as plainSame, passes as plainPasses}
 use Rattle.plain_list.specs.PlainStep.{plainOutcome, plainRun}
-use Rattle.sequence.specs.Calls.{Call, told, toldAll, Reply, refused, grown, linked, answered, same, inspected}
+use Rattle.sequence.specs.Calls.{Call, told, toldAll, Reply, refusal, node, linked, answered, same, passes}
 use Rattle.sequence.specs.Run.{rowsIn}
 use Rattle.transcript.specs.Asked.{Asked, call, nothing, askedBy}
-use Rattle.transcript.specs.Printed.{Printed, refusal, printed, letterOf, printedLine}
+use Rattle.transcript.specs.Printed.{Printed, printedRefusal, printed, letterOf, printedLine}
 use Rattle.transcript_exact.specs.Level.{levelIn}
 use Rattle.transcript.specs.Transcript.{rows, scratch}
 
@@ -45,12 +45,12 @@ callsIn (whole (call q) ∷ items) = q ∷ callsIn items
 
 -- the plain list's reply, with the rows renumbered
 abbrev pub withRows : PlainReply → ℕ → Reply
-withRows (plainRefused n) k = refused n
-withRows (node n) k = grown n k
+withRows (plainRefusal n) k = refusal n
+withRows (plainNode n) k = node n k
 withRows plainLinked k = linked k
 withRows (plainAnswered r) k = answered (r .nca) (r .toX) (r .toY) (pos (r .distanceX)) (pos (r .distanceY)) (r .label)
 withRows (plainSame b) k = same b
-withRows passes k = inspected true
+withRows plainPasses k = passes true
 
 -- what the plain list's replies to calls print, from the list p on, where the calls renumber so many rows each; the level is that in the list after the call
 unfoldable pub repliesFrom : PlainList → List Call → List ℕ → List Printed
@@ -71,7 +71,7 @@ rowsOf (r ∷ rs) = rowsIn r ∷ rowsOf rs
 -- refuses prints the refusal, one that asks for a call the reply to it, and filler prints no line
 unfoldable pub linesFrom : ℕ → List Item → List Printed → List ℕ
 linesFrom i [] replies = []
-linesFrom i (odd n ∷ items) replies = printedLine i (refusal n) ++ linesFrom (i + 1) items replies
+linesFrom i (odd n ∷ items) replies = printedLine i (printedRefusal n) ++ linesFrom (i + 1) items replies
 linesFrom i (whole nothing ∷ items) replies = linesFrom (i + 1) items replies
 linesFrom i (whole (call q) ∷ items) [] = []
 linesFrom i (whole (call q) ∷ items) (r ∷ replies) = printedLine i r ++ linesFrom (i + 1) items replies

@@ -9,16 +9,16 @@ use lib.IntN.{ℤ}
 use lib.ListN.{length}
 use Rattle.laws.specs.Test.{pick}
 use Rattle.tree_laws.specs.Ancestor.{none}
-use Rattle.rows.specs.Answer.{Answer}
-use Rattle.rows.specs.Table.{Table}
-use Rattle.rows.specs.Rules.{numbered}
+use Rattle.tree_laws.specs.Answer.{Answer}
+use Rattle.table.specs.Table.{Table}
+use Rattle.table.specs.Rules.{numbered}
 use Rattle.plain_list.specs.PlainList.{PlainList, countOf, withLeaf, withFirst, withRoot}
 use Rattle.plain_list.specs.PlainListLaws.{node-count, root-count}
 use Rattle.plain_list.specs.PlainStep.{leaf as plainLeaf, root as plainRoot, question as plainQuestion, alike as plainAlike}
-use Rattle.plain_list.specs.PlainStep.{PlainReply, refused as plainRefused, node, answered as plainAnswered, same as plainSame}
+use Rattle.plain_list.specs.PlainStep.{PlainReply, refusal as plainRefusal, node as plainNode, answered as plainAnswered, same as plainSame}
 use Rattle.plain_list.specs.PlainStep.{PlainOutcome, replies, refusalOf, unless, grows, isLabel, hasRoom, bothKnown, rootIn, asked as askedOf, plainOutcome}
 use Rattle.plain_list.specs.StoredList.{StoredList}
-use Rattle.sequence.specs.Calls.{Call, leaf, root, question, alike, told, Reply, refused, grown}
+use Rattle.sequence.specs.Calls.{Call, leaf, root, question, alike, told, Reply, refusal, node}
 use Rattle.sequence.specs.Run.{Fast, tableIn, Turn, step, run, rowsIn, totalIn}
 use Rattle.sequence.specs.Agrees.{Agrees, refusals, nodes, links, answers, alikes, pass}
 use Rattle.sequence.specs.Invariant.{Stands}
@@ -63,7 +63,7 @@ module _ (c : ℕ) (p : PlainList) where
 
 -- a reply that names no new node
 data Plain : PlainReply → Type 0 where
-  plain-refused : (n : ℕ) → Plain (plainRefused n)
+  plain-refused : (n : ℕ) → Plain (plainRefusal n)
   plain-answer : (a : Answer) → Plain (plainAnswered a)
   plain-same : (b : ℕ) → Plain (plainSame b)
 
@@ -99,14 +99,14 @@ agrees-still (plain-refused n) (refusals _) letter l m = refl
 agrees-still (plain-answer a) (answers _) letter l m = refl
 agrees-still (plain-same b) (alikes _) letter l m = refl
 
-agrees-refused : {n : ℕ} {u : Reply} → Agrees (plainRefused n) u → u ≡ refused n
+agrees-refused : {n : ℕ} {u : Reply} → Agrees (plainRefusal n) u → u ≡ refusal n
 agrees-refused (refusals n) = refl
 
 record New (n : ℕ) (u : Reply) : Type 0 where
   count : ℕ
-  is : u ≡ grown n count
+  is : u ≡ node n count
 
-agrees-new : {n : ℕ} {u : Reply} → Agrees (node n) u → New n u
+agrees-new : {n : ℕ} {u : Reply} → Agrees (plainNode n) u → New n u
 agrees-new (nodes n k) = record { count = k; is = refl }
 
 -- a call of a log, where the table stands beside the plain list and is one tree: one tree again, and what is printed is by the plain list

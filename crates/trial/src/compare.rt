@@ -13,8 +13,8 @@ use alike::same_labels;
 use query::Answer;
 use query::Answered;
 use query::characteristic_ancestors;
-use rows::refusal::number_of;
-use rows::state::State;
+use table::refusal::number_of;
+use table::state::State;
 
 fn signed(n: u16) -> i32 {
     n as i32

@@ -31,8 +31,8 @@ use inspect::Inspected;
 use inspect::inspect;
 use link::Linked;
 use link::link;
-use rows::refusal::number_of;
-use rows::state::State;
+use table::refusal::number_of;
+use table::state::State;
 
 // Both sides, and the rows renumbered and the joinings so far.
 pub struct Run {

@@ -5,9 +5,9 @@ use growth::Grown;
 use growth::add_root;
 use log::Field;
 use reader::read_at;
-use rows::refusal::number_of;
 use set_up::Made;
 use set_up::set_up;
+use table::refusal::number_of;
 
 // The refusal of set-up, or 0.
 fn refusal_of_set_up(made: Made) -> u16 {

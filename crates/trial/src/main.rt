@@ -10,12 +10,12 @@ use crate::report::write_tree;
 use crate::shape::SHAPES;
 use crate::tally::Tally;
 use crate::tally::noted;
-use rows::layout::ENTRIES;
-use rows::layout::FIELDS;
-use rows::layout::NUMBERS;
-use rows::state::State;
+use layer::layout::ENTRIES;
+use layer::layout::FIELDS;
+use layer::layout::NUMBERS;
 use set_up::Made;
 use set_up::set_up;
+use table::state::State;
 
 mod compare;
 mod grow;

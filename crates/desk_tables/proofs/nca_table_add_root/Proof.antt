@@ -1,5 +1,5 @@
 -- `nca_table_add_root`: the growth, then its reply.
-use Rattle.rows.specs.Row.{partsOf}
+use Rattle.table.specs.Parts.{partsOf}
 use Rattle.desk_tables.specs.TableCallsLaws.{growth-misfit, growth-served}
 use borrow.Author.Needs.{needs}
 use Rattle.desk_tables.proofs.nca_table_add_root.Statement.{statement}

@@ -1,5 +1,5 @@
 -- `nca_table_link`: the link, then its reply.
-use Rattle.rows.specs.Row.{partsOf}
+use Rattle.table.specs.Parts.{partsOf}
 use Rattle.replies.specs.Reply.{stateOf}
 use Rattle.desk_tables.specs.TableCallsLaws.{link-misfit, link-served}
 use borrow.Author.Needs.{needs}

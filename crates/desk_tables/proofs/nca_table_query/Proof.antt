@@ -1,5 +1,5 @@
 -- `nca_table_query`: the question, then its reply.
-use Rattle.rows.specs.Row.{partsOf}
+use Rattle.table.specs.Parts.{partsOf}
 use Rattle.replies.specs.Reply.{stateOf}
 use Rattle.desk_tables.specs.TableCallsLaws.{question-misfit, question-served}
 use borrow.Author.Needs.{needs}

@@ -1,5 +1,5 @@
 -- `nca_table_set_up`: set-up, then its reply.
-use Rattle.rows.specs.Row.{partsOf}
+use Rattle.table.specs.Parts.{partsOf}
 use Rattle.desk_tables.specs.TableCallsLaws.{set-up-misfit, set-up-served}
 use borrow.Author.Needs.{needs}
 use Rattle.desk_tables.proofs.nca_table_set_up.Statement.{statement}

@@ -1,5 +1,5 @@
 -- `keep_grown`: the tree is written where the growth was served.
-use Rattle.rows.specs.Row.{partsOf}
+use Rattle.table.specs.Parts.{partsOf}
 use Rattle.desk_trees.specs.TreeCallsLaws.{written-held}
 use borrow.Author.Needs.{needs}
 use Rattle.desk_trees.proofs.keep_grown.Statement.{statement}

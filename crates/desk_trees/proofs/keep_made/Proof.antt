@@ -1,5 +1,5 @@
 -- `keep_made`: the tree is written where it was made.
-use Rattle.rows.specs.Row.{partsOf}
+use Rattle.table.specs.Parts.{partsOf}
 use Rattle.desk_trees.specs.TreeCallsLaws.{written-held}
 use borrow.Author.Needs.{needs}
 use Rattle.desk_trees.proofs.keep_made.Statement.{statement}

@@ -1,6 +1,6 @@
 -- `link`: refused with nothing changed, or served.
 use Rattle.link.specs.LinkLaws.{serve-ready, call-refused, call-served}
-use Rattle.rows.specs.Row.{partsOf}
+use Rattle.table.specs.Parts.{partsOf}
 use native.Mathlib.Omega.{arith}
 use lib.ListN.{length}
 use borrow.Author.Needs.{needs}
@@ -17,7 +17,7 @@ enum-known-checked-2 : tie.Need-enum-known-checked-2
 enum-known-checked-2 c = search needs
 
 serve-requires : tie.Need-serve-requires
-serve-requires c κs = let a = c .before .before .before .before .before .before .before .before .before .before .before .before .before .before .before .before .before .before .args in let r = serve-ready (partsOf (a .fields .now) (a .numbers .now) (a .levels .now) (a .ancestors .now)) (length (a .scratch .now)) (a .state) (a .x) (a .v) (a .door) (c .before .before .before .before .before .before .before .before .check-link .ensures) (c .before .before .before .before .before .before .checked2 .given .1) in (r .held, r .most)
+serve-requires c κs = let a = c .before .before .before .before .before .before .before .before .before .before .before .before .before .before .before .before .before .before .args in let r = serve-ready (partsOf (a .fields .now) (a .numbers .now) (a .levels .now) (a .ancestors .now)) (length (a .scratch .now)) (a .state) (a .x) (a .v) (a .door) (c .before .before .before .before .before .before .before .before .check-link .ensures) (c .before .before .before .before .before .before .checked2 .given .1) in (r .holds, r .most)
 
 same-length : tie.Need-same-length
 same-length c = search needs

@@ -5,7 +5,7 @@ use Rattle.transcript.specs.PlaceLaws.{left}
 use Rattle.transcript.specs.TranscriptLaws.{Come, come-first, come-small, come-turn, turn-falls, come-last}
 use native.Mathlib.Omega.{arith}
 use lib.ListN.{length}
-use Rattle.rows.specs.Row.{partsOf}
+use Rattle.table.specs.Parts.{partsOf}
 use Rattle.transcript.proofs.read_fields.Statement.{statement}
 use Rattle.transcript.proofs.read_fields.Tie as tie
 

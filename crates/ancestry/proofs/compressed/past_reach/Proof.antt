@@ -9,13 +9,13 @@ reaches-requires : tie.Need-reaches-requires
 reaches-requires c κs = search needs
 
 returns : tie.Need-returns
-returns c = reach-stay _ _ _ (sym (c .before .reaches .ensures) ∙ c .if1 .taken)
+returns c = reach-stay _ _ _ _ (sym (c .before .reaches .ensures) ∙ c .if1 .taken)
 
 above-requires : tie.Need-above-requires
 above-requires c κs = search needs
 
 returns-2 : tie.Need-returns-2
-returns-2 c = c .above .ensures ∙ reach-up _ _ _ (c .before .before .before .before .before .before .pre .1 .1 .0) (sym (c .before .before .reaches .ensures) ∙ c .before .if1 .left)
+returns-2 c = c .above .ensures ∙ reach-up _ _ _ _ (c .before .before .before .before .before .pre .1 .1 .0) (sym (c .before .before .reaches .ensures) ∙ c .before .if1 .left)
 
 pub past-reach-spec : {M : Type 1} → statement M
 past-reach-spec = tie.close (tie.spec reaches-requires returns above-requires returns-2)

@@ -7,7 +7,7 @@ span-of-requires : tie.Need-span-of-requires
 span-of-requires c κs = search needs
 
 p-requires : tie.Need-p-requires
-p-requires c κs = rw (c .span-of .ensures) (c .before .before .before .before .pre .1 .sound .end)
+p-requires c κs = rw (c .span-of .ensures) (c .before .before .before .pre .end)
 
 returns : tie.Need-returns
 returns c = rw (c .p .ensures, c .before .span-of .ensures)

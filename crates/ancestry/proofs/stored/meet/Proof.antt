@@ -1,5 +1,5 @@
 -- `meet`: its calls are the definition's parts, and its rows are sound.
-use Rattle.ancestry.specs.AnswerRows.{path-row-row, meeting-row}
+use Rattle.ancestry.specs.PathFields.{path-row-in, meeting-in}
 use Rattle.ancestry.specs.StoredAnswer.{meeting, branchOf}
 use borrow.Author.Needs.{needs}
 use Rattle.ancestry.proofs.stored.meet.Statement.{statement}
@@ -13,27 +13,20 @@ path-row-requires-2 c κs = search needs
 
 higher-requires : tie.Need-higher-requires
 higher-requires c κs =
-    let h = c .before .before .before .before .before .pre in (
-      h .0,
-      (
-        rw (c .before .path-row .ensures) (path-row-row _ _ (h .1 .0) (h .1 .1 .1 .0)),
-        rw (c .path-row2 .ensures) (path-row-row _ _ (h .1 .1 .0) (h .1 .1 .1 .1)),
-      ),
-    )
+    let h = c .before .before .before .pre in
+    (rw (c .before .path-row .ensures) (path-row-in _ _ (h .0)), rw (c .path-row2 .ensures) (path-row-in _ _ (h .1)))
 
 branch-at-requires : tie.Need-branch-at-requires
 unfolding meeting
 branch-at-requires c κs =
-    let h = c .before .before .before .before .before .before .pre in
-    let row = meeting-row _ _ _ (h .1 .0) (h .1 .1 .0) (h .1 .1 .1 .0) (h .1 .1 .1 .1) in
-    (h .0, rw (c .higher .ensures, c .before .before .path-row .ensures, c .before .path-row2 .ensures) row)
+    let h = c .before .before .before .before .pre in
+    rw (c .higher .ensures, c .before .before .path-row .ensures, c .before .path-row2 .ensures) (meeting-in _ _ _ (h .0) (h .1))
 
 branch-at-requires-2 : tie.Need-branch-at-requires-2
 unfolding meeting
 branch-at-requires-2 c κs =
-    let h = c .before .before .before .before .before .before .before .pre in
-    let row = meeting-row _ _ _ (h .1 .0) (h .1 .1 .0) (h .1 .1 .1 .0) (h .1 .1 .1 .1) in
-    (h .0, rw (c .before .higher .ensures, c .before .before .before .path-row .ensures, c .before .before .path-row2 .ensures) row)
+    let h = c .before .before .before .before .before .pre in
+    rw (c .before .higher .ensures, c .before .before .before .path-row .ensures, c .before .before .path-row2 .ensures) (meeting-in _ _ _ (h .0) (h .1))
 
 forked-requires : tie.Need-forked-requires
 forked-requires c κs = search needs

@@ -13,7 +13,7 @@ p-at-requires-2 c κs = search needs
 stored-from-requires : tie.Need-stored-from-requires
 stored-from-requires c κs =
     let h = c .before .before .before .before .before .pre in
-    (h .0, (h .1, (rw (c .before .p-at .ensures) (p-limit (h .1 .left)), rw (c .p-at2 .ensures) (p-limit (h .1 .right)))))
+    (h .0, (h .1 .0, (h .1 .1, (rw (c .before .p-at .ensures) (p-limit (h .1 .1 .left)), rw (c .p-at2 .ensures) (p-limit (h .1 .1 .right))))))
 
 returns : tie.Need-returns
 returns c = rw (c .stored-from .ensures, c .before .p-at2 .ensures, c .before .before .p-at .ensures)

@@ -26,7 +26,7 @@ sides-joined-requires : tie.Need-sides-joined-requires
 sides-joined-requires c κs =
     let a = c .before .before .before .before .before .before .args in
     let h = c .before .before .before .before .before .before .pre in
-    (h .0, (h .1 .0, rw (c .between .ensures) (between-limit (a .px) (a .py) (h .1 .1 .0) (h .1 .1 .1))))
+    (h .0, (h .1 .0, (h .1 .1 .0, rw (c .between .ensures) (between-limit (a .px) (a .py) (h .1 .1 .1 .0) (h .1 .1 .1 .1)))))
 
 returns-3 : tie.Need-returns-3
 unfolding storedFrom

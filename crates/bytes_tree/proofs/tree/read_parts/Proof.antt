@@ -1,5 +1,5 @@
 -- `read_parts`: each column from its place.
-use Rattle.rows.specs.Row.{partsOf}
+use Rattle.table.specs.Parts.{partsOf}
 use Rattle.bytes_tree.specs.TreeLaws.{parts-read}
 use borrow.Author.Needs.{needs}
 use Rattle.bytes_tree.proofs.tree.read_parts.Statement.{statement}

@@ -1,6 +1,6 @@
 -- `write_tree`: each column at its place, all of the bytes.
 use native.Mathlib.Omega.{arith}
-use Rattle.rows.specs.Row.{partsOf}
+use Rattle.table.specs.Parts.{partsOf}
 use Rattle.bytes_tree.specs.TreeLaws.{tree-stored}
 use borrow.Author.Needs.{needs}
 use Rattle.bytes_tree.proofs.tree.write_tree.Statement.{statement}

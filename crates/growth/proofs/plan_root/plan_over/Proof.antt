@@ -1,6 +1,6 @@
 -- `plan_over`: the refusals in their order.
-use Rattle.growth.specs.PlanLaws.{held, root-read, over-misfit, over-scratch, over-unknown, over-fallen, over-lost, over-other, over-full, over-row}
-use Rattle.rows.specs.Row.{partsOf}
+use Rattle.growth.specs.PlanLaws.{holds, root-read, over-misfit, over-scratch, over-unknown, over-fallen, over-lost, over-other, over-full, over-row}
+use Rattle.table.specs.Parts.{partsOf}
 use borrow.Author.Tests.{not-true, not-false}
 use mathlib.Core.Path.{_∙_, sym}
 use borrow.Author.Needs.{needs}
@@ -56,7 +56,7 @@ returns-7 c = let a = c .before .before .before .before .before .before .before 
     over-full (partsOf (a .fields .now) (a .numbers .now) (a .levels .now) (a .ancestors .now)) _ (a .state) (a .x) _ (sym (c .before .before .before .before .before .before .before .before .before .before .before .before .cap .given .1) ∙ c .before .before .before .before .before .before .before .before .before .before .before .before .before .before .capacity .ensures) (c .before .before .before .before .before .before .before .before .before .before .if1 .left) (c .before .before .before .before .before .before .before .before .if2 .left) (sym (c .before .before .before .before .before .before .before .is-standing .ensures) ∙ not-false _ (c .before .before .before .before .before .before .if3 .left)) (λ z. c .before .before .before .if4 .left (r ∙ z)) (sym r ∙ c .before .before .if5 .left) (c .if6 .taken)
 
 plan-above-requires : tie.Need-plan-above-requires
-plan-above-requires c κs = let a = c .before .before .before .before .before .before .before .before .before .before .before .before .before .before .before .before .before .before .before .args in held (partsOf (a .fields .now) (a .numbers .now) (a .levels .now) (a .ancestors .now)) _ (a .state) (sym (c .before .before .before .before .before .before .before .before .before .before .before .before .cap .given .1) ∙ c .before .before .before .before .before .before .before .before .before .before .before .before .before .before .capacity .ensures) (sym (c .before .before .before .before .before .before .before .is-standing .ensures) ∙ not-false _ (c .before .before .before .before .before .before .if3 .left))
+plan-above-requires c κs = let a = c .before .before .before .before .before .before .before .before .before .before .before .before .before .before .before .before .before .before .before .args in holds (partsOf (a .fields .now) (a .numbers .now) (a .levels .now) (a .ancestors .now)) _ (a .state) (sym (c .before .before .before .before .before .before .before .before .before .before .before .before .cap .given .1) ∙ c .before .before .before .before .before .before .before .before .before .before .before .before .before .before .capacity .ensures) (sym (c .before .before .before .before .before .before .before .is-standing .ensures) ∙ not-false _ (c .before .before .before .before .before .before .if3 .left))
 
 returns-8 : tie.Need-returns-8
 returns-8 c = let a = c .before .before .before .before .before .before .before .before .before .before .before .before .before .before .before .before .before .before .before .before .args in

@@ -3,7 +3,7 @@ use Prim.Native.Nat.{ℕ, _-_, _≤_}
 use mathlib.Core.Bool.{Bool}
 use mathlib.Core.List.{List}
 use Rattle.inspect_spans.specs.Small.{isSmall}
-use Rattle.inspect_tree.specs.Columns.{spanTable}
+use Rattle.inspect_tree.specs.Columns.{spanLayer}
 use Rattle.inspect_laws.specs.All.{Passed, passed-none, passed-by, passed-end, stopped-by}
 use borrow.Author.Needs.{needs}
 use native.Mathlib.Omega.{arith}
@@ -12,7 +12,7 @@ use Rattle.inspect_spans.proofs.nested.are_small.Tie as tie
 
 -- the test of one row
 abbrev passes : List ℕ → List ℕ → ℕ → Bool
-passes fields numbers = isSmall (spanTable fields numbers 0)
+passes fields numbers = isSmall (spanLayer fields numbers 0)
 
 abbrev Inv-loop : tie.InvT-loop
 Inv-loop fields numbers n x₀ x = (x ≤ n) × Passed (passes fields numbers) x

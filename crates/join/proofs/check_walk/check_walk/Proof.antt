@@ -11,10 +11,10 @@ use Rattle.join.proofs.check_walk.check_walk.Statement.{statement}
 use Rattle.join.proofs.check_walk.check_walk.Tie as tie
 
 abbrev Inv-loop : tie.InvT-loop
-Inv-loop fields numbers levels count leaf head steps t₀ k₀ t k = (k ≤ steps) × (checkWalk steps fields numbers levels count leaf head (record { row = head; down = true; ok = true }) ≡ checkWalk (steps - k) fields numbers levels count leaf head t)
+Inv-loop fields numbers count leaf head steps t₀ k₀ t k = (k ≤ steps) × (checkWalk steps fields numbers count leaf head (record { row = head; down = true; ok = true }) ≡ checkWalk (steps - k) fields numbers count leaf head t)
 
 abbrev μ-loop : tie.MeasureT-loop
-μ-loop fields numbers levels count leaf head steps t₀ k₀ t k = steps - k
+μ-loop fields numbers count leaf head steps t₀ k₀ t k = steps - k
 
 loop-holds : tie.Need-loop-holds Inv-loop μ-loop
 loop-holds c = (omega arith, rw sub-zero)
@@ -30,10 +30,10 @@ loop-less c = omega arith
 
 loop-again : tie.Need-loop-again Inv-loop μ-loop
 loop-again c = let l = c .before .before .loop in let n = c .before .before .before .before .before .args .steps in
-    (omega arith, l .inv .1 ∙ check-on _ _ _ _ _ _ (l .t) _ (n - l .k) (n - (l .k + 1)) (omega arith) (c .check-turn .ensures))
+    (omega arith, l .inv .1 ∙ check-on _ _ _ _ _ (l .t) _ (n - l .k) (n - (l .k + 1)) (omega arith) (c .check-turn .ensures))
 
 returns : tie.Need-returns Inv-loop μ-loop
-returns c = let l = c .before .before .before .before .loop in sym (l .inv .1 ∙ check-end _ _ _ _ _ _ (l .t) _ (omega arith))
+returns c = let l = c .before .before .before .before .loop in sym (l .inv .1 ∙ check-end _ _ _ _ _ (l .t) _ (omega arith))
 
 pub check-walk-spec : {M : Type 1} → statement M
 check-walk-spec =

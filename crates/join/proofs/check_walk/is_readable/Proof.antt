@@ -9,12 +9,12 @@ returns : tie.Need-returns
 unfolding isReadable
 returns c = let a = c .before .before .before .before .args in rw (eq-eqb (a .c) (a .leaf .row) (c .if1 .taken))
 
-is-good-requires : tie.Need-is-good-requires
-is-good-requires c κs = search needs
+is-row-requires : tie.Need-is-row-requires
+is-row-requires c κs = search needs
 
 returns-2 : tie.Need-returns-2
 unfolding isReadable
-returns-2 c = let a = c .before .before .before .before .before .args in rw (c .is-good .ensures, ne-eqb (a .c) (a .leaf .row) (c .before .if1 .left))
+returns-2 c = let a = c .before .before .before .before .before .args in rw (c .is-row .ensures, ne-eqb (a .c) (a .leaf .row) (c .before .if1 .left))
 
 pub is-readable-spec : {M : Type 1} → statement M
-is-readable-spec = tie.close (tie.spec returns is-good-requires returns-2)
+is-readable-spec = tie.close (tie.spec returns is-row-requires returns-2)

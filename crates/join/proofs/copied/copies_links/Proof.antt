@@ -2,7 +2,7 @@
 use mathlib.Core.Path.{_≡_, _∙_}
 use Prim.Native.Nat.{ℕ, _+_, _-_}
 use native.Mathlib.Omega.{arith}
-use Rattle.rows.specs.Layout.{entryStride}
+use Rattle.layer.specs.Layout.{entryStride}
 use Rattle.join.specs.CopiedLaws.{copies-none, copies-row}
 use borrow.Author.Needs.{needs}
 use Rattle.join.proofs.copied.copies_links.Statement.{statement}

@@ -3,7 +3,7 @@ use Rattle.link.specs.CheckLaws.{check-misfit, check-scratch, check-x, c
 use Rattle.link.specs.declared.check.Checked.the-variants.{Serve}
 use Rattle.growth.specs.PlanLaws.{root-read}
 use Rattle.inspect.specs.InspectionLaws.{told-capacity}
-use Rattle.rows.specs.Row.{partsOf}
+use Rattle.table.specs.Parts.{partsOf}
 use borrow.Author.Tests.{not-true, not-false}
 use mathlib.Core.Path.{ap, _∙_, sym}
 use borrow.Author.Needs.{needs}

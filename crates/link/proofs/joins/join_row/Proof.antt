@@ -1,6 +1,6 @@
 -- `join_row`: no level, or the stores that are planned.
 use Rattle.link.specs.WalkLaws.{join-out, join-at}
-use Rattle.rows.specs.Row.{partsOf}
+use Rattle.table.specs.Parts.{partsOf}
 use mathlib.Core.Path.{_≡_}
 use mir.Val.{toZ, ofZ}
 use mir.Syntax.{w32}
@@ -33,7 +33,7 @@ returns : tie.Need-returns
 returns c = let a = c .before .before .before .before .before .before .before .before .before .before .before .args in join-out (partsOf (a .fields .now) (a .numbers .now) (a .levels .now) (a .ancestors .now)) (a .n) (a .x) (a .door) (a .z) (c .before .before .before .before .before .before .field .ensures) (c .before .before .level-under .ensures) (c .enum-told .given .1)
 
 plan-row-requires : tie.Need-plan-row-requires
-plan-row-requires c κs = c .before .before .before .before .before .before .before .before .before .before .before .before .before .before .before .before .pre
+plan-row-requires c κs = c .before .before .before .before .before .before .before .before .before .before .before .before .before .before .before .pre
 
 store-planned-requires : tie.Need-store-planned-requires
 store-planned-requires c κs = search needs
@@ -51,9 +51,9 @@ same-length-6 : tie.Need-same-length-6
 same-length-6 c = search needs
 
 returns-2 : tie.Need-returns-2
-returns-2 c = let a = c .before .before .before .before .before .before .before .before .before .before .before .before .before .before .before .before .before .before .before .before .before .before .before .before .before .before .before .before .before .args in
-    let kept : toZ w32 (ofZ w32 (c .before .before .before .before .before .before .before .before .before .before .before .before .before .before .before .before .before .before .l .given .0 .0)) ≡ c .before .before .before .before .before .before .before .before .before .before .before .before .before .before .before .before .before .before .l .given .0 .0 = search needs in
-    join-at (partsOf (a .fields .now) (a .numbers .now) (a .levels .now) (a .ancestors .now)) (a .n) (a .x) (a .door) (a .z) (c .before .before .before .before .before .before .before .before .before .before .before .before .before .before .before .before .before .before .before .before .before .before .before .before .field .ensures) (c .before .before .before .before .before .before .before .before .before .before .before .before .before .before .before .before .before .before .before .before .level-under .ensures) (c .before .before .before .before .before .before .before .before .before .before .before .before .before .before .before .before .before .before .l .given .1) (c .before .before .before .before .before .before .before .before .before .before .before .before .before .before .before .before .before .before .before .before .before .before .label-for .ensures) (rw kept at (c .before .before .before .before .before .before .before .before .before .before .before .before .plan-row .ensures)) (c .before .before .before .before .before .before .before .store-planned .ensures)
+returns-2 c = let a = c .before .before .before .before .before .before .before .before .before .before .before .before .before .before .before .before .before .before .before .before .before .before .before .before .before .before .before .before .args in
+    let kept : toZ w32 (ofZ w32 (c .before .before .before .before .before .before .before .before .before .before .before .before .before .before .before .before .before .l .given .0 .0)) ≡ c .before .before .before .before .before .before .before .before .before .before .before .before .before .before .before .before .before .l .given .0 .0 = search needs in
+    join-at (partsOf (a .fields .now) (a .numbers .now) (a .levels .now) (a .ancestors .now)) (a .n) (a .x) (a .door) (a .z) (c .before .before .before .before .before .before .before .before .before .before .before .before .before .before .before .before .before .before .before .before .before .before .before .field .ensures) (c .before .before .before .before .before .before .before .before .before .before .before .before .before .before .before .before .before .before .before .level-under .ensures) (c .before .before .before .before .before .before .before .before .before .before .before .before .before .before .before .before .before .l .given .1) (c .before .before .before .before .before .before .before .before .before .before .before .before .before .before .before .before .before .before .before .before .before .label-for .ensures) (rw kept at (c .before .before .before .before .before .before .before .before .before .before .before .before .plan-row .ensures)) (c .before .before .before .before .before .before .before .store-planned .ensures)
 
 pub join-row-spec : {M : Type 1} → statement M
 join-row-spec =

@@ -1,6 +1,6 @@
 -- `join_turn`: on to the next depth, or one row joins.
 use Rattle.link.specs.WalkLaws.{turn-depth, turn-row}
-use Rattle.rows.specs.Row.{partsOf}
+use Rattle.table.specs.Parts.{partsOf}
 use Rattle.link.specs.Sort.{cellAt}
 use borrow.Author.Needs.{needs}
 use Rattle.link.proofs.joins.join_turn.Statement.{statement}

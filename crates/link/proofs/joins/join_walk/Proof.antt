@@ -1,6 +1,6 @@
 -- `join_walk` turns as its definition does.
 use Rattle.link.specs.WalkLaws.{walk-on, walk-end}
-use Rattle.rows.specs.Row.{partsOf}
+use Rattle.table.specs.Parts.{partsOf}
 use Rattle.link.specs.Sort.{cellAt}
 use Rattle.link.specs.Walk.{walking, joining, joinWalk}
 use lib.ListN.{length}
@@ -30,7 +30,7 @@ loop-holds : tie.Need-loop-holds Inv-loop μ-loop
 loop-holds c = (omega arith, (omega arith, (omega arith, (omega arith, (omega arith, (omega arith, rw (sub-zero, c .cell .ensures)))))))
 
 join-turn-requires : tie.Need-join-turn-requires Inv-loop μ-loop
-join-turn-requires c κs = record { fields = omega (arith, c .before .before .before .before .before .before .before .before .before .before .before .before .pre .fields); numbers = omega (arith, c .before .before .before .before .before .before .before .before .before .before .before .before .pre .numbers); levels = omega (arith, c .before .before .before .before .before .before .before .before .before .before .before .before .pre .levels) }
+join-turn-requires c κs = record { fields = omega (arith, c .before .before .before .before .before .before .before .before .before .before .before .before .pre .fields); numbers = omega (arith, c .before .before .before .before .before .before .before .before .before .before .before .before .pre .numbers) }
 
 add-k : tie.Need-add-k Inv-loop μ-loop
 add-k c = omega arith

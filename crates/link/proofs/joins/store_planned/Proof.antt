@@ -1,6 +1,6 @@
 -- `store_planned` stores what was planned.
 use Rattle.link.specs.WalkLaws.{store-grown, store-start, store-refused}
-use Rattle.rows.specs.Row.{partsOf}
+use Rattle.table.specs.Parts.{partsOf}
 use borrow.Author.Needs.{needs}
 use Rattle.link.proofs.joins.store_planned.Statement.{statement}
 use Rattle.link.proofs.joins.store_planned.Tie as tie

@@ -1,10 +1,11 @@
--- `is_minus`: a level within its limits and a depth of 16 bits, and so their sum fits.
-use Prim.Native.Nat.{_<_}
+-- `is_minus`: minus a depth of 16 bits fits, and words are equal where the numbers are.
 use native.Mathlib.Omega.{arith}
-use lib.IntN.{pos, _+ℤ_}
+use lib.IntN.{pos, negℤ, +ℤ-idl}
 use mir.Syntax.{w32}
-use mir.ValLaws.{toZ-ofZ, toZ-pos}
-use Rattle.query.specs.LevelLaws.{level-fits, word-eq, sum-fits}
+use mir.ValLaws.{toZ-pos}
+use Rattle.query.specs.Line.{isMinus}
+use Rattle.table.specs.LevelLaws.{word-eq}
+use Rattle.query.specs.LevelLaws.{minus-fits}
 use borrow.Author.Needs.{needs}
 use Rattle.query.proofs.line.is_minus.Statement.{statement}
 use Rattle.query.proofs.line.is_minus.Tie as tie
@@ -12,18 +13,16 @@ use Rattle.query.proofs.line.is_minus.Tie as tie
 cast-result : tie.Need-cast-result
 cast-result c = search needs
 
-add-result : tie.Need-add-result
-add-result c =
-    let a = c .args in
-    let i : a .depth < 65536 = omega arith in
-    rw (toZ-ofZ w32 (a .level) (level-fits (a .level) (c .pre)), toZ-pos w32 (a .depth) (omega arith)) (sum-fits (a .level) (a .depth) (c .pre) i)
+sub-result : tie.Need-sub-result
+sub-result c =
+    let d = c .args .depth in
+    rw (toZ-pos w32 d (omega arith), +ℤ-idl (negℤ (pos d))) (minus-fits d (omega arith))
 
 returns : tie.Need-returns
+unfolding isMinus
 returns c =
-    let a = c .args in
-    let i : a .depth < 65536 = omega arith in
-    rw (toZ-ofZ w32 (a .level) (level-fits (a .level) (c .pre)), toZ-pos w32 (a .depth) (omega arith))
-    (word-eq (a .level +ℤ pos (a .depth)) (pos 0) (sum-fits (a .level) (a .depth) (c .pre) i) record { sfits = omega arith })
+    let d = c .args .depth in
+    rw (toZ-pos w32 d (omega arith), +ℤ-idl (negℤ (pos d))) (word-eq (c .args .level) (negℤ (pos d)) (c .fits .level) (minus-fits d (omega arith)))
 
 pub is-minus-spec : {M : Type 1} → statement M
-is-minus-spec = tie.close (tie.spec cast-result add-result returns)
+is-minus-spec = tie.close (tie.spec cast-result sub-result returns)

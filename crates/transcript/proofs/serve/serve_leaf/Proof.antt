@@ -1,5 +1,5 @@
 -- `serve_leaf` is the report of a leaf.
-use Rattle.rows.specs.Row.{partsOf}
+use Rattle.table.specs.Parts.{partsOf}
 use Rattle.transcript.specs.ReportLaws.{leaf-report}
 use borrow.Author.Needs.{needs}
 use Rattle.transcript.proofs.serve.serve_leaf.Statement.{statement}

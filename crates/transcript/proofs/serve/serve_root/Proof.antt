@@ -1,5 +1,5 @@
 -- `serve_root` is the report of a new root.
-use Rattle.rows.specs.Row.{partsOf}
+use Rattle.table.specs.Parts.{partsOf}
 use Rattle.transcript.specs.ReportLaws.{root-report}
 use borrow.Author.Needs.{needs}
 use Rattle.transcript.proofs.serve.serve_root.Statement.{statement}

@@ -1,7 +1,7 @@
 -- `take_turn` goes by the case of the field.
 use mathlib.Core.Path.{refl, _∙_}
 use native.Mathlib.Omega.{arith}
-use Rattle.rows.specs.Row.{partsOf}
+use Rattle.table.specs.Parts.{partsOf}
 use Rattle.transcript.specs.Session.{sessionOf}
 use Rattle.transcript.specs.SessionLaws.{step-from, served-from}
 use borrow.Author.Needs.{needs}

@@ -1,0 +1,1 @@
+// Laws only: inspection says yes exactly when all six rules hold. No code.

@@ -1,0 +1,4 @@
+pub mod Columns
+pub mod Levels
+pub mod Marks
+pub mod LinesBy

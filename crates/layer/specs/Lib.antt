@@ -1,0 +1,14 @@
+pub mod Layout
+pub mod Row
+pub mod Write
+pub mod Layer
+pub mod StoredTree
+pub mod CompressedTree
+pub mod Spans
+pub mod Entries
+pub mod EntriesLaws
+pub mod Numbered
+pub mod Sound
+pub mod SoundLaws
+pub mod Checked
+pub mod CheckedLaws

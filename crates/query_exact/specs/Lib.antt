@@ -1,0 +1,5 @@
+pub mod PlainShape
+pub mod PlainExact
+pub mod SoughtExact
+pub mod QuestionExact
+pub mod ThreeAnswers

@@ -1,0 +1,14 @@
+pub mod Layout
+pub mod Parts
+pub mod Capacity
+pub mod CapacityLaws
+pub mod Table
+pub mod Tree
+pub mod Line
+pub mod PlainTree
+pub mod Rules
+pub mod Refusal
+pub mod State
+pub mod StateLaws
+pub mod Level
+pub mod LevelLaws

@@ -1,0 +1,5 @@
+pub mod Lines
+pub mod LevelBounds
+pub mod LevelLaws
+pub mod TreeTests
+pub mod PlainRoot

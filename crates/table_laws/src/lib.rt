@@ -1,0 +1,1 @@
+// Laws only: the lines, levels and roots of a table that passes inspection.
