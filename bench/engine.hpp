@@ -18,16 +18,16 @@ public:
     }
 
     uint16_t add_first() {
-        uint16_t out[3];
+        uint16_t out[4];
         served(nca_table_add_first(fields.data(), fields.size(), numbers.data(), numbers.size(), levels.data(), levels.size(), ancestors.data(),
-                                   ancestors.size(), scratch.data(), scratch.size(), count, out, 3));
+                                   ancestors.size(), scratch.data(), scratch.size(), count, out, 4));
         return grown(out);
     }
 
     uint16_t add_leaf(uint16_t parent, uint16_t label) {
-        uint16_t out[3];
+        uint16_t out[4];
         served(nca_table_add_leaf(fields.data(), fields.size(), numbers.data(), numbers.size(), levels.data(), levels.size(), ancestors.data(),
-                                  ancestors.size(), scratch.data(), scratch.size(), count, parent, label, out, 3));
+                                  ancestors.size(), scratch.data(), scratch.size(), count, parent, label, out, 4));
         return grown(out);
     }
 
@@ -37,19 +37,19 @@ public:
             root = 0;
             return add_first();
         }
-        uint16_t out[3];
+        uint16_t out[4];
         served(nca_table_add_root(fields.data(), fields.size(), numbers.data(), numbers.size(), levels.data(), levels.size(), ancestors.data(),
-                                  ancestors.size(), scratch.data(), scratch.size(), count, root, out, 3));
+                                  ancestors.size(), scratch.data(), scratch.size(), count, root, out, 4));
         root = out[1];
         return grown(out);
     }
 
     // The tree of root x under v: the rows renumbered.
     uint32_t link(uint16_t x, uint16_t v, uint16_t label) {
-        uint32_t rows = 0;
+        uint32_t out[2];
         served(nca_table_link(fields.data(), fields.size(), numbers.data(), numbers.size(), levels.data(), levels.size(), ancestors.data(),
-                              ancestors.size(), scratch.data(), scratch.size(), count, x, v, label, &rows, 1));
-        return rows;
+                              ancestors.size(), scratch.data(), scratch.size(), count, x, v, label, out, 2));
+        return out[0];
     }
 
     Answer query(uint16_t x, uint16_t y) const {

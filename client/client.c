@@ -29,7 +29,7 @@ static void expect(int holds, const char *what) {
 
 /* A growth and a question as any form answers them. */
 struct growth {
-    unsigned node, rows;
+    unsigned node, rows, head;
     int level;
 };
 
@@ -60,29 +60,30 @@ static unsigned table_set_up(void) {
 }
 
 /* Keeps the count. */
-static unsigned table_grown(unsigned refusal, const uint16_t out[3], struct growth *g) {
+static unsigned table_grown(unsigned refusal, const uint16_t out[4], struct growth *g) {
     if (refusal == 0) {
         table.count = out[0];
         g->node = out[1];
         g->rows = out[2];
+        g->head = out[3];
         g->level = table.levels[out[1]];
     }
     return refusal;
 }
 
 static unsigned table_add_first(struct growth *g) {
-    uint16_t out[3];
-    return table_grown(nca_table_add_first(PARTS, scratch, CAPACITY, table.count, out, 3), out, g);
+    uint16_t out[4];
+    return table_grown(nca_table_add_first(PARTS, scratch, CAPACITY, table.count, out, 4), out, g);
 }
 
 static unsigned table_add_leaf(unsigned parent, unsigned label, struct growth *g) {
-    uint16_t out[3];
-    return table_grown(nca_table_add_leaf(PARTS, scratch, CAPACITY, table.count, (uint16_t)parent, (uint16_t)label, out, 3), out, g);
+    uint16_t out[4];
+    return table_grown(nca_table_add_leaf(PARTS, scratch, CAPACITY, table.count, (uint16_t)parent, (uint16_t)label, out, 4), out, g);
 }
 
 static unsigned table_add_root_over(unsigned x, struct growth *g) {
-    uint16_t out[3];
-    return table_grown(nca_table_add_root(PARTS, scratch, CAPACITY, table.count, (uint16_t)x, out, 3), out, g);
+    uint16_t out[4];
+    return table_grown(nca_table_add_root(PARTS, scratch, CAPACITY, table.count, (uint16_t)x, out, 4), out, g);
 }
 
 /* The new root of a log: it names none. */
@@ -93,8 +94,8 @@ static unsigned table_add_root(struct growth *g) {
     return refusal;
 }
 
-static unsigned table_link(unsigned x, unsigned v, unsigned label, uint32_t *rows) {
-    return nca_table_link(PARTS, scratch, CAPACITY, table.count, (uint16_t)x, (uint16_t)v, (uint16_t)label, rows, 1);
+static unsigned table_link(unsigned x, unsigned v, unsigned label, uint32_t out[2]) {
+    return nca_table_link(PARTS, scratch, CAPACITY, table.count, (uint16_t)x, (uint16_t)v, (uint16_t)label, out, 2);
 }
 
 static unsigned table_query(unsigned x, unsigned y, struct answer *a) {
@@ -123,23 +124,24 @@ static long signed_at(const uint8_t *b) {
 
 static unsigned tree_set_up(void) { return nca_set_up(tree, NCA_TREE_BYTES); }
 
-static void tree_grown(const uint8_t out[4], struct growth *g) {
+static void tree_grown(const uint8_t out[6], struct growth *g) {
     g->node = little_endian(out);
     g->rows = little_endian(out + 2);
+    g->head = little_endian(out + 4);
     g->level = (int)signed_at(tree + LEVELS + 4 * g->node);
 }
 
 static unsigned tree_add_leaf(unsigned parent, unsigned label, struct growth *g) {
-    uint8_t out[4];
-    unsigned refusal = nca_add_leaf(tree, NCA_TREE_BYTES, (uint16_t)parent, (uint16_t)label, out, 4);
+    uint8_t out[6];
+    unsigned refusal = nca_add_leaf(tree, NCA_TREE_BYTES, (uint16_t)parent, (uint16_t)label, out, 6);
     if (refusal == 0)
         tree_grown(out, g);
     return refusal;
 }
 
 static unsigned tree_add_root(struct growth *g) {
-    uint8_t out[4];
-    unsigned refusal = nca_add_root(tree, NCA_TREE_BYTES, out, 4);
+    uint8_t out[6];
+    unsigned refusal = nca_add_root(tree, NCA_TREE_BYTES, out, 6);
     if (refusal == 0)
         tree_grown(out, g);
     return refusal;
@@ -175,7 +177,7 @@ static unsigned big_endian(const uint8_t *b) { return 256u * b[0] + b[1]; }
 /* One field of a well-formed log; the rows that it renumbered. */
 static unsigned play_field(const struct form *f, unsigned ordinal, const uint8_t *field) {
     unsigned tag = field[0], refusal;
-    struct growth g = {0, 0, 0};
+    struct growth g = {0, 0, 0, 0};
     struct answer a = {{0}};
     if (tag == 3)
         refusal = f->query(big_endian(field + 3), big_endian(field + 5), &a);
@@ -188,7 +190,7 @@ static unsigned play_field(const struct form *f, unsigned ordinal, const uint8_t
     else if (tag == 3)
         printf("%u Q %ld %ld %ld %ld %ld %ld\n", ordinal, a.values[0], a.values[1], a.values[2], a.values[3], a.values[4], a.values[5]);
     else
-        printf("%u %c %u %d %u\n", ordinal, tag == 1 ? 'L' : 'T', g.node, g.level, g.rows);
+        printf("%u %c %u %d %u %u\n", ordinal, tag == 1 ? 'L' : 'T', g.node, g.level, g.rows, g.head);
     return g.rows;
 }
 
@@ -203,7 +205,7 @@ static void play(const struct form *f, unsigned (*count)(void)) {
 
 /* A path of as many nodes as there is room for, and one more. */
 static void fill(const struct form *f) {
-    struct growth g = {0, 0, 0};
+    struct growth g = {0, 0, 0, 0};
     struct answer a = {{0}};
     unsigned served = 0;
     expect(f->set_up() == 0, "set-up is served");
@@ -223,11 +225,11 @@ static unsigned table_count(void) { return table.count; }
 static unsigned tree_count(void) { return little_endian(tree); }
 
 static void table_calls(void) {
-    uint16_t out[3] = {9, 9, 9}, yes = 9;
+    uint16_t out[4] = {9, 9, 9, 9}, yes = 9;
     struct table before = table;
-    expect(nca_table_add_root(PARTS, scratch, CAPACITY, table.count, table.root, out, 2) == NCA_MISFIT, "a short out slice is a misfit");
-    expect(nca_table_add_root(PARTS, scratch, CAPACITY - 1, table.count, table.root, out, 3) == NCA_MISFIT, "a short scratch is a misfit");
-    expect(out[0] == 9 && out[2] == 9 && memcmp(&before, &table, sizeof table) == 0, "a refusal changes nothing");
+    expect(nca_table_add_root(PARTS, scratch, CAPACITY, table.count, table.root, out, 3) == NCA_MISFIT, "a short out slice is a misfit");
+    expect(nca_table_add_root(PARTS, scratch, CAPACITY - 1, table.count, table.root, out, 4) == NCA_MISFIT, "a short scratch is a misfit");
+    expect(out[0] == 9 && out[3] == 9 && memcmp(&before, &table, sizeof table) == 0, "a refusal changes nothing");
     expect(nca_table_alike(PARTS, table.count, 1, 1, &yes, 1) == 0 && yes == 1, "a node is alike to itself");
     expect(nca_table_alike(PARTS, table.count, 1, 2, &yes, 1) == 0 && yes == 0, "other labels are not alike");
     expect(nca_table_inspect(PARTS, scratch, CAPACITY, table.count, &yes, 1) == 0 && yes == 1, "the table passes inspection");
@@ -238,25 +240,27 @@ static void table_calls(void) {
 
 /* Two trees in one table, and the second linked under a node of the first. */
 static void several_trees(void) {
-    struct growth g = {0, 0, 0};
+    struct growth g = {0, 0, 0, 0};
     struct answer a = {{0}};
     uint16_t yes = 9;
-    uint32_t rows = 9;
+    uint32_t out[2] = {9, 9};
     expect(table_set_up() == 0, "set-up is served");
     expect(table_add_first(&g) == 0 && g.node == 0 && g.rows == 1, "a first node is served");
     expect(table_add_leaf(0, 7, &g) == 0 && g.node == 1, "a leaf of the first tree is served");
-    expect(table_add_first(&g) == 0 && g.node == 2 && g.rows == 1 && g.level == 0, "a second tree is begun");
+    expect(table_add_first(&g) == 0 && g.node == 2 && g.rows == 1 && g.head == 2 && g.level == 0, "a second tree is begun");
     expect(table_query(1, 2, &a) == NCA_OTHER_TREE, "nodes of two trees share none");
     expect(nca_table_alike(PARTS, table.count, 1, 2, &yes, 1) == NCA_OTHER_TREE && yes == 9, "nor are they compared");
     expect(table_add_root_over(1, &g) == NCA_NOT_ROOT, "a new root goes over a root");
     expect(table_add_root_over(2, &g) == 0 && g.node == 3 && g.level == -1, "also that of the second tree");
     expect(table_query(2, 3, &a) == 0 && a.values[0] == 3, "which then answers");
-    expect(table_link(2, 1, 5, &rows) == NCA_NOT_ROOT, "a node that is no root is not linked");
-    expect(table_link(3, 2, 5, &rows) == NCA_SAME_TREE, "nor is a root under its own tree");
-    expect(table_link(3, 1, 0, &rows) == NCA_BAD_LABEL && rows == 9, "a link has a label");
-    expect(table_link(3, 1, 5, &rows) == 0 && rows == 7, "the second tree is linked");
+    expect(table_link(2, 1, 5, out) == NCA_NOT_ROOT, "a node that is no root is not linked");
+    expect(table_link(3, 2, 5, out) == NCA_SAME_TREE, "nor is a root under its own tree");
+    expect(table_link(3, 1, 0, out) == NCA_BAD_LABEL && out[0] == 9 && out[1] == 9, "a link has a label");
+    expect(table_link(3, 1, 5, out) == 0 && out[0] == 7 && out[1] == 0, "the second tree is linked");
     expect(table.levels[3] == 2 && table.levels[2] == 3, "its levels shift");
     expect(table_query(2, 0, &a) == 0 && a.values[0] == 0 && a.values[1] == 1 && a.values[3] == 3, "and both answer together");
+    expect(table_add_first(&g) == 0 && g.node == 4, "a third tree is begun");
+    expect(table_link(0, 4, 6, out) == 0 && out[1] == 4, "the head of a link is the first row of the receiving tree");
     expect(nca_table_inspect(PARTS, scratch, CAPACITY, table.count, &yes, 1) == 0 && yes == 1, "the table passes inspection");
 }
 
@@ -266,9 +270,9 @@ static void tree_calls(void) {
     memset(out, 9, sizeof out);
     memcpy(before, tree, sizeof tree);
     expect(nca_set_up(tree, NCA_TREE_BYTES - 1) == NCA_MISFIT, "a short tree is a misfit");
-    expect(nca_add_leaf(tree, NCA_TREE_BYTES - 1, 0, 1, out, 4) == NCA_MISFIT, "a short tree is a misfit of a leaf");
-    expect(nca_add_leaf(tree, NCA_TREE_BYTES, 0, 1, out, 3) == NCA_MISFIT, "a short out slice is a misfit");
-    expect(nca_add_leaf(tree, NCA_TREE_BYTES, 0, 0, out, 4) == NCA_BAD_LABEL, "a label of 0 is refused");
+    expect(nca_add_leaf(tree, NCA_TREE_BYTES - 1, 0, 1, out, 6) == NCA_MISFIT, "a short tree is a misfit of a leaf");
+    expect(nca_add_leaf(tree, NCA_TREE_BYTES, 0, 1, out, 5) == NCA_MISFIT, "a short out slice is a misfit");
+    expect(nca_add_leaf(tree, NCA_TREE_BYTES, 0, 0, out, 6) == NCA_BAD_LABEL, "a label of 0 is refused");
     expect(nca_query(tree, NCA_TREE_BYTES, 0, NCA_NONE, out, 16) == NCA_UNKNOWN_NODE, "an unknown node is refused");
     expect(out[0] == 9 && out[15] == 9 && memcmp(before, tree, sizeof tree) == 0, "a refusal changes nothing");
     tree[FIELDS + 2 * 10] = 200; /* a root that is no node, in row 0 */
@@ -278,7 +282,7 @@ static void tree_calls(void) {
 
 /* Both forms grow and answer alike, to the last node, and the tree holds what the table holds. */
 static void compare(void) {
-    struct growth g = {0, 0, 0}, h = {0, 0, 0};
+    struct growth g = {0, 0, 0, 0}, h = {0, 0, 0, 0};
     struct answer a = {{0}}, b = {{0}};
     unsigned seed = 1;
     expect(table_set_up() == 0 && tree_set_up() == 0, "set-up is served");

@@ -30,35 +30,36 @@ enum nca_refusal {
 
 /* The table form. A table of capacity c is lent as four slices: fields (12 c), numbers (2 c), levels (c), ancestors (122 c).
  * It holds several trees, each begun by a first node. The count goes in by value, and the caller keeps the one that a growth writes to its out slice.
- * scratch (c) is memory apart from the table; growth looks at its length only, inspection and a served link may leave anything in it. */
+ * scratch (c) is memory apart from the table; growth looks at its length only, inspection and a served link may leave anything in it.
+ * The head of a growth is the row that headed the renumbering, that of a link the first row of the receiving stored tree. */
 
 /* An empty table. out (1): count. */
 uint16_t nca_table_set_up(uint16_t *fields, size_t fields_len, uint64_t *numbers, size_t numbers_len,
                           int32_t *levels, size_t levels_len, uint16_t *ancestors, size_t ancestors_len,
                           uint16_t *out, size_t out_len);
 
-/* The first node of a new tree, its root. out (3): count, the new node, rows renumbered. */
+/* The first node of a new tree, its root. out (4): count, the new node, rows renumbered, head. */
 uint16_t nca_table_add_first(uint16_t *fields, size_t fields_len, uint64_t *numbers, size_t numbers_len,
                              int32_t *levels, size_t levels_len, uint16_t *ancestors, size_t ancestors_len,
                              const uint16_t *scratch, size_t scratch_len,
                              uint16_t count,
                              uint16_t *out, size_t out_len);
 
-/* A new leaf. out (3): count, the new node, rows renumbered. */
+/* A new leaf. out (4): count, the new node, rows renumbered, head. */
 uint16_t nca_table_add_leaf(uint16_t *fields, size_t fields_len, uint64_t *numbers, size_t numbers_len,
                             int32_t *levels, size_t levels_len, uint16_t *ancestors, size_t ancestors_len,
                             const uint16_t *scratch, size_t scratch_len,
                             uint16_t count, uint16_t parent, uint16_t label,
                             uint16_t *out, size_t out_len);
 
-/* A new root over x, the root of a tree. out (3): count, the new node, rows renumbered. */
+/* A new root over x, the root of a tree. out (4): count, the new node, rows renumbered, head. */
 uint16_t nca_table_add_root(uint16_t *fields, size_t fields_len, uint64_t *numbers, size_t numbers_len,
                             int32_t *levels, size_t levels_len, uint16_t *ancestors, size_t ancestors_len,
                             const uint16_t *scratch, size_t scratch_len,
                             uint16_t count, uint16_t x,
                             uint16_t *out, size_t out_len);
 
-/* The whole tree of root x under v, a node of another tree; x takes the label. out (1): rows renumbered. */
+/* The whole tree of root x under v, a node of another tree; x takes the label. out (2): rows renumbered, head. */
 uint16_t nca_table_link(uint16_t *fields, size_t fields_len, uint64_t *numbers, size_t numbers_len,
                         int32_t *levels, size_t levels_len, uint16_t *ancestors, size_t ancestors_len,
                         uint16_t *scratch, size_t scratch_len,
@@ -91,10 +92,10 @@ uint16_t nca_table_inspect(const uint16_t *fields, size_t fields_len, const uint
 /* An empty tree. */
 uint16_t nca_set_up(uint8_t *tree, size_t tree_len);
 
-/* A new leaf. out (4 bytes): the new node (2), rows renumbered (2). */
+/* A new leaf. out (6 bytes): the new node (2), rows renumbered (2), head (2). */
 uint16_t nca_add_leaf(uint8_t *tree, size_t tree_len, uint16_t parent, uint16_t label, uint8_t *out, size_t out_len);
 
-/* A new root over the present one, or the first node. out (4 bytes): the new node (2), rows renumbered (2). */
+/* A new root over the present one, or the first node. out (6 bytes): the new node (2), rows renumbered (2), head (2). */
 uint16_t nca_add_root(uint8_t *tree, size_t tree_len, uint8_t *out, size_t out_len);
 
 /* out (16 bytes): the nearest common ancestor (2), the branches towards x (2) and y (2), the distances of x (4) and y (4) from it, its label (2). */

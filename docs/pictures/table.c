@@ -15,13 +15,13 @@ static int32_t levels[CAPACITY];
 static const uint16_t parents[] = {0, 1, 2, 3, 1, 2, 6, 0, ROOT, 9, 3, 4};
 
 int main(void) {
-    uint16_t out[3], root;
+    uint16_t out[4], root;
     if (nca_table_set_up(PARTS, out, 1) != 0) return 1;
-    if (nca_table_add_first(PARTS, scratch, CAPACITY, out[0], out, 3) != 0) return 1;
+    if (nca_table_add_first(PARTS, scratch, CAPACITY, out[0], out, 4) != 0) return 1;
     root = out[1];
     for (unsigned i = 0; i < sizeof parents / sizeof parents[0]; i++) {
-        uint16_t refusal = parents[i] == ROOT ? nca_table_add_root(PARTS, scratch, CAPACITY, out[0], root, out, 3)
-                                              : nca_table_add_leaf(PARTS, scratch, CAPACITY, out[0], parents[i], (uint16_t)(i + 2), out, 3);
+        uint16_t refusal = parents[i] == ROOT ? nca_table_add_root(PARTS, scratch, CAPACITY, out[0], root, out, 4)
+                                              : nca_table_add_leaf(PARTS, scratch, CAPACITY, out[0], parents[i], (uint16_t)(i + 2), out, 4);
         if (refusal != 0) return 1;
         if (parents[i] == ROOT) root = out[1];
     }

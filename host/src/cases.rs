@@ -52,6 +52,26 @@ pub fn misfits() -> String {
     "8 tables".into()
 }
 
+/// Out slices of growths and links of another length, with nothing else to refuse.
+pub fn answers() -> String {
+    let (mut table, mut scratch) = (Table::new(8, true), Lent::new(8, 0));
+    equal(table.set_up(), Ok(()), || "set-up".into());
+    (0..2).for_each(|x| equal(table.add_first(&scratch).map(|g| g.node), Ok(x), || "first node".into()));
+    let lengths = [0, 1, 2, 3, 4, 5, 8];
+    for len in lengths {
+        let what = || format!("an answer of {len} places");
+        if len != 4 {
+            equal(table.add_first_to(Lent::marked(len), &scratch).map(|_| ()), Err(3), what);
+            equal(table.add_leaf_to(Lent::marked(len), &scratch, 0, 1).map(|_| ()), Err(3), what);
+            equal(table.add_root_to(Lent::marked(len), &scratch, 0).map(|_| ()), Err(3), what);
+        }
+        if len != 2 {
+            equal(table.link_to(Lent::marked(len), &mut scratch, 0, 1, 1).map(|_| ()), Err(3), what);
+        }
+    }
+    format!("{} lengths", lengths.len())
+}
+
 /// Labels 9,999 and 10,000; the 128th and 129th node.
 pub fn limits() -> String {
     let (mut table, scratch) = (Table::new(128, true), Lent::new(128, 0));

@@ -171,7 +171,8 @@ fn link(table: &Table, good: bool, random: &mut Random) {
     let (mut linked, x, v, label) = (table.clone(), root(table, random), node(table.count, random), [1, 9, 9999, 0][random.below(4)]);
     let found = linked.link(&mut scratch, x, v, label);
     let read = Reading::of(table).link(length, x, v, label);
-    equal(found.err(), read.err().or((!good).then_some(4)), || format!("link {x} {v}"));
+    let expected = if good { read } else { read.and(Err(4)) };
+    equal(found.map(|l| l.head), expected.map(u32::from), || format!("link {x} {v}"));
     if good {
         let mut plain = rules::plain(table);
         let expected = plain.link(length, x, v, label);

@@ -173,11 +173,24 @@ pub struct Table {
     pub watched: bool,
 }
 
+/// What a growth answers: the new node, the rows renumbered, and the row that headed them.
 #[derive(Clone, Copy, PartialEq, Debug)]
 pub struct Grown {
     pub node: u16,
     pub rows: u16,
+    pub head: u16,
 }
+
+/// What a link answers: the rows renumbered, and the first row of the receiving stored tree.
+#[derive(Clone, Copy, PartialEq, Debug)]
+pub struct Linked {
+    pub rows: u32,
+    pub head: u32,
+}
+
+/// How many places the out slices of growths and links have.
+const GROWN: usize = 4;
+const LINKED: usize = 2;
 
 /// What a call says, or 01's refusal number.
 pub type Reply<T> = Result<T, u16>;
@@ -276,7 +289,12 @@ impl Table {
     }
 
     pub fn add_first(&mut self, scratch: &Lent<u16>) -> Reply<Grown> {
-        let (before, kept, mut out) = (self.copy(), self.watched.then(|| scratch.clone()), Lent::<u16>::marked(3));
+        self.add_first_to(Lent::marked(GROWN), scratch)
+    }
+
+    /// A first node that answers to a slice of any length.
+    pub fn add_first_to(&mut self, mut out: Lent<u16>, scratch: &Lent<u16>) -> Reply<Grown> {
+        let (before, kept) = (self.copy(), self.watched.then(|| scratch.clone()));
         let s = scratch.part();
         let o = out.part_mut();
         let code = lend_mut!(nca_table_add_first, self, s.as_ptr(), s.len(), self.count, o.as_mut_ptr(), o.len());
@@ -284,7 +302,12 @@ impl Table {
     }
 
     pub fn add_leaf(&mut self, scratch: &Lent<u16>, parent: u16, label: u16) -> Reply<Grown> {
-        let (before, kept, mut out) = (self.copy(), self.watched.then(|| scratch.clone()), Lent::<u16>::marked(3));
+        self.add_leaf_to(Lent::marked(GROWN), scratch, parent, label)
+    }
+
+    /// A leaf that answers to a slice of any length.
+    pub fn add_leaf_to(&mut self, mut out: Lent<u16>, scratch: &Lent<u16>, parent: u16, label: u16) -> Reply<Grown> {
+        let (before, kept) = (self.copy(), self.watched.then(|| scratch.clone()));
         let s = scratch.part();
         let o = out.part_mut();
         let code = lend_mut!(nca_table_add_leaf, self, s.as_ptr(), s.len(), self.count, parent, label, o.as_mut_ptr(), o.len());
@@ -293,7 +316,12 @@ impl Table {
 
     /// A new root over x.
     pub fn add_root(&mut self, scratch: &Lent<u16>, x: u16) -> Reply<Grown> {
-        let (before, kept, mut out) = (self.copy(), self.watched.then(|| scratch.clone()), Lent::<u16>::marked(3));
+        self.add_root_to(Lent::marked(GROWN), scratch, x)
+    }
+
+    /// A new root that answers to a slice of any length.
+    pub fn add_root_to(&mut self, mut out: Lent<u16>, scratch: &Lent<u16>, x: u16) -> Reply<Grown> {
+        let (before, kept) = (self.copy(), self.watched.then(|| scratch.clone()));
         let s = scratch.part();
         let o = out.part_mut();
         let code = lend_mut!(nca_table_add_root, self, s.as_ptr(), s.len(), self.count, x, o.as_mut_ptr(), o.len());
@@ -323,19 +351,24 @@ impl Table {
         if let Some(kept) = kept {
             check(code == 0 || kept.part() == scratch.part(), || format!("{call} gave {code} and changed the scratch"));
         }
-        self.served(code, out).map(|_| Grown { node: out.part()[1], rows: out.part()[2] })
+        self.served(code, out).map(|_| Grown { node: out.part()[1], rows: out.part()[2], head: out.part()[3] })
     }
 
-    /// The tree of root x under v, x with this label: the rows renumbered.
-    pub fn link(&mut self, scratch: &mut Lent<u16>, x: u16, v: u16, label: u16) -> Reply<u32> {
-        let (before, kept, mut out) = (self.copy(), scratch.clone(), Lent::<u32>::marked(1));
+    /// The tree of root x under v, x with this label.
+    pub fn link(&mut self, scratch: &mut Lent<u16>, x: u16, v: u16, label: u16) -> Reply<Linked> {
+        self.link_to(Lent::marked(LINKED), scratch, x, v, label)
+    }
+
+    /// A link that answers to a slice of any length.
+    pub fn link_to(&mut self, mut out: Lent<u32>, scratch: &mut Lent<u16>, x: u16, v: u16, label: u16) -> Reply<Linked> {
+        let (before, kept) = (self.copy(), scratch.clone());
         let (s, o) = (scratch.part_mut(), out.part_mut());
         let code = lend_mut!(nca_table_link, self, s.as_mut_ptr(), s.len(), self.count, x, v, label, o.as_mut_ptr(), o.len());
         self.after("link", code, before, true, &out);
         check(scratch.is_guarded(), || "link touched a guard of the scratch".into());
         check(code == 0 || kept.part() == scratch.part(), || format!("link gave {code} and changed the scratch"));
         if code == 0 {
-            Ok(out.part()[0])
+            Ok(Linked { rows: out.part()[0], head: out.part()[1] })
         } else {
             Err(code)
         }

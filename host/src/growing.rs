@@ -1,5 +1,5 @@
-//! Growths on a table filled with anything: what each reads before its first store, and the node and rows that it answers. Of a link, what it reads
-//! before it inspects the whole table.
+//! Growths on a table filled with anything: what each reads before its first store, and the node, rows and head that it answers. Of a link, what it
+//! reads before it inspects the whole table, and the head.
 
 use std::collections::BTreeSet;
 
@@ -38,7 +38,7 @@ impl Reading<'_> {
         let capacity = self.fits(scratch)?;
         self.has_room(capacity)?;
         self.has_count(capacity)?;
-        Ok(Grown { node: self.table.count, rows: 1 })
+        Ok(Grown { node: self.table.count, rows: 1, head: self.table.count })
     }
 
     pub fn add_leaf(&mut self, scratch: usize, parent: u16, label: u16) -> Reply<Grown> {
@@ -85,16 +85,17 @@ impl Reading<'_> {
         self.join(root, -1)
     }
 
-    /// What a link refuses before it inspects the table.
-    pub fn link(&mut self, scratch: usize, x: u16, v: u16, label: u16) -> Reply<()> {
+    /// What a link refuses before it inspects the table; else its head, the first row of v's tree.
+    pub fn link(&mut self, scratch: usize, x: u16, v: u16, label: u16) -> Reply<u16> {
         let capacity = self.fits(scratch)?;
         self.knows(&[x, v])?;
         Self::has_label(label)?;
         self.has_count(capacity)?;
-        if self.tree_of_root(x)? == self.tree(v)? {
+        let (linked, receiving) = (self.tree_of_root(x)?, self.tree(v)?);
+        if linked == receiving {
             return Err(11);
         }
-        Ok(())
+        Ok(receiving)
     }
 
     /// A leaf under a parent, so many levels below it.
@@ -107,12 +108,12 @@ impl Reading<'_> {
         let chain = self.chain(upper)?;
         let Some((head, row)) = chain.into_iter().rev().find(|(_, row)| 5 * (row.size + 1) >= 6 * row.set_size) else {
             self.is_seated(Some(upper), 1)?;
-            return Ok(Grown { node: leaf.row, rows: 1 });
+            return Ok(Grown { node: leaf.row, rows: 1, head: leaf.row });
         };
         self.must(row.upper.is_some() || row.parent.is_none(), Cause::Unseated)?;
         self.must_meet(head, row.size + 1, &leaf)?;
         self.is_seated(row.upper, row.size + 1)?;
-        Ok(Grown { node: leaf.row, rows: row.size as u16 + 1 })
+        Ok(Grown { node: leaf.row, rows: row.size as u16 + 1, head })
     }
 
     /// The compressed parent of a leaf: its parent where that is an apex.

@@ -1,6 +1,6 @@
 //! Several trees in a table, by hand: links of small tables and of two paths, trees that are not shared, and records that lead nowhere.
 
-use crate::engine::{Table, FIELDS, NONE, ROOT};
+use crate::engine::{Grown, Linked, Table, FIELDS, NONE, ROOT};
 use crate::lent::Lent;
 use crate::tally::equal;
 
@@ -41,7 +41,7 @@ fn trees_apart() {
     equal(table.query(1, 3), Err(1), || "an unknown node comes before 12".into());
     equal(table.query(2, 2), Ok([2, 2, 2, 0, 0, 0]), || "a node of the second tree with itself".into());
     equal(table.add_root(&scratch, 1).map(|_| ()), Err(10), || "a new root over a leaf".into());
-    equal(table.add_root(&scratch, 2).map(|g| (g.node, g.rows)), Ok((3, 2)), || "a new root of the second tree".into());
+    equal(table.add_root(&scratch, 2), Ok(Grown { node: 3, rows: 2, head: 2 }), || "a new root of the second tree".into());
     equal((field(&table, 0, ROOT), field(&table, 2, ROOT)), (0, 3), || "the roots".into());
     equal(table.add_root(&scratch, 2).map(|_| ()), Err(10), || "a new root over an old one".into());
     equal(table.add_root(&scratch, 3).map(|_| ()), Err(2), || "a new root of a full table".into());
@@ -65,7 +65,7 @@ fn root_astray() {
 fn full_table() {
     let (mut table, mut scratch) = empty(2);
     (0..2).for_each(|x| equal(table.add_first(&scratch).map(|g| g.node), Ok(x), || "a first node".into()));
-    equal(table.link(&mut scratch, 0, 1, 7), Ok(2), || "a link in a full table".into());
+    equal(table.link(&mut scratch, 0, 1, 7), Ok(Linked { rows: 2, head: 1 }), || "a link in a full table".into());
     equal(table.levels.part(), &[1, 0], || "levels after a link in a full table".into());
     equal(table.query(0, 1), Ok([1, 0, 1, 1, 0, 0]), || "a question after a link".into());
     equal(table.inspect(&mut scratch), Ok(1), || "inspection after a link".into());
@@ -84,7 +84,7 @@ fn turned_tree() {
     equal(table.link(&mut scratch, 2, 3, 0), Err(5), || "a link with label 0".into());
     equal(table.link(&mut scratch, 1, 3, 10000), Err(5), || "5 comes before 10".into());
     equal(table.link(&mut scratch, 2, 4, 0), Err(1), || "1 comes before 5".into());
-    equal(table.link(&mut scratch, 2, 3, 9), Ok(9), || "a link of a tree with new roots".into());
+    equal(table.link(&mut scratch, 2, 3, 9), Ok(Linked { rows: 9, head: 3 }), || "a link of a tree with new roots".into());
     equal(column(&table, PARENT), vec![1, 2, 3, NONE], || "stored parents after a link".into());
     equal(column(&table, LABEL), vec![0, 0, 9, 0], || "labels after a link".into());
     equal(table.levels.part(), &[3, 2, 1, 0], || "levels after a link".into());
@@ -112,7 +112,7 @@ fn paths(under: u16, rows: u32) {
         (first..first + 127).for_each(|x| total += table.add_leaf(&scratch, x, 1).map_or(0, |g| u32::from(g.rows)));
     }
     equal((table.count, total), (256, 2340), || "two paths".into());
-    equal(table.link(&mut scratch, 0, under, 3), Ok(rows), || format!("a path linked under {under}"));
+    equal(table.link(&mut scratch, 0, under, 3), Ok(Linked { rows, head: 128 }), || format!("a path linked under {under}"));
     equal(table.query(127, 255).map(|a| a[0]), Ok(i32::from(under)), || "the node where two paths part".into());
     equal(table.inspect(&mut scratch), Ok(1), || "inspection of two paths".into());
 }

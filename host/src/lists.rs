@@ -5,7 +5,7 @@ use crate::lent::Lent;
 use crate::plain::Plain;
 use crate::random::Random;
 use crate::rules;
-use crate::stored::{Linked, Stored};
+use crate::stored::Stored;
 use crate::tally::{check, equal};
 
 /// How parents are chosen.
@@ -23,7 +23,7 @@ pub const SHAPES: [Shape; 6] = [Shape::Uniform, Shape::Chain, Shape::Star, Shape
 
 impl Shape {
     /// A node below `count`, which is not 0.
-    fn parent(self, count: usize, random: &mut Random) -> usize {
+    pub fn parent(self, count: usize, random: &mut Random) -> usize {
         match self {
             Shape::Uniform => random.below(count),
             Shape::Chain => count - 1,
@@ -192,13 +192,13 @@ impl List {
         let found = self.table.link(&mut scratch, x, v, label);
         let expected = self.plain.link(fits, x, v, label);
         equal(found.map(|_| ()), expected.map(|_| ()), || self.describe(&format!("link {x} {v}")));
-        let (Ok(rows), Ok(joined)) = (found, expected) else { return };
+        let (Ok(linked), Ok(joined)) = (found, expected) else { return };
         self.links += 1;
         if let Some(stored) = &mut self.stored {
             let expected = stored.link(x, v, label);
-            equal(Linked { rows: u64::from(rows), joined }, expected, || self.describe(&format!("link {x} {v}")));
+            equal((linked, joined), expected, || self.describe(&format!("link {x} {v}")));
         }
-        self.renumbered(u64::from(rows), joined as u64, random);
+        self.renumbered(u64::from(linked.rows), joined as u64, random);
     }
 
     /// After each call that joined nodes: the total, the stored trees and an inspection.

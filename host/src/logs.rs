@@ -1,4 +1,4 @@
-//! The log program on good and damaged logs, against a reader and a printer written apart.
+//! The log program on good and damaged logs, against a reader and a printer written apart, and on written logs (host/vectors/logs.txt says how).
 
 use std::io::Write;
 use std::process::{Command, Stdio};
@@ -12,6 +12,8 @@ const CAPACITY: usize = 128;
 const LONGEST: usize = 16_384;
 const LOGS: usize = 1_500;
 const PROGRAM: &str = "target/bin/echo";
+
+const WRITTEN: &str = include_str!("../vectors/logs.txt");
 
 /// What document 01's program prints for a log.
 struct Printer {
@@ -38,7 +40,7 @@ impl Printer {
                 };
                 self.total += u64::from(grown.rows);
                 let level = self.stored.rows[node as usize].level;
-                self.line(ordinal, letter, &[i32::from(node), level, i32::from(grown.rows)]);
+                self.line(ordinal, letter, &[i32::from(node), level, i32::from(grown.rows), i32::from(grown.head)]);
             }
         }
     }
@@ -140,6 +142,27 @@ fn compare(log: &[u8]) {
     let (found, expected) = (run(log), listing(log));
     let first = found.lines().zip(expected.lines()).find(|(f, e)| f != e);
     equal(&found, &expected, || format!("a log of {} bytes, first at {first:?}", log.len()));
+}
+
+/// A written log: its name, its bytes and what is printed for it.
+fn written(log: &str) -> (&str, Vec<u8>, String) {
+    let byte = |field: &str, i: usize| u8::from_str_radix(&field[i..i + 2], 16).expect("a byte");
+    let (name, lines) = log.split_once('\n').expect("a name");
+    let fields = lines.lines().filter_map(|line| line.strip_prefix("< "));
+    let bytes = fields.flat_map(|field| (0..field.len()).step_by(2).map(move |i| byte(field, i))).collect();
+    let printed = lines.lines().filter(|line| !line.starts_with('<')).map(|line| format!("{line}\n")).collect();
+    (name, bytes, printed)
+}
+
+/// Written logs, by the program and by the printer.
+pub fn vectors() -> String {
+    let logs = WRITTEN.split("\nlog ").skip(1);
+    let count = logs.clone().count();
+    for (name, bytes, expected) in logs.map(written) {
+        equal(listing(&bytes), expected.clone(), || format!("the printer on log {name}"));
+        equal(run(&bytes), expected, || format!("log {name}"));
+    }
+    format!("{count} logs")
 }
 
 pub fn logs() -> String {

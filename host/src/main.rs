@@ -6,6 +6,7 @@ mod asking;
 mod cases;
 mod damage;
 mod engine;
+mod frame;
 mod growing;
 mod hand;
 mod lent;
@@ -27,9 +28,10 @@ mod vectors;
 use std::process::ExitCode;
 
 /// A group of tests, and what it says of itself beside its counts.
-const GROUPS: [(&str, fn() -> String); 17] = [
+const GROUPS: [(&str, fn() -> String); 22] = [
     ("capacities 0, 1, 32,768 and 32,769", cases::capacities),
     ("parts that do not fit", cases::misfits),
+    ("answers of another length", cases::answers),
     ("labels and the last node", cases::limits),
     ("several trees by hand", hand::cases),
     ("written lists of calls", vectors::lists),
@@ -37,6 +39,9 @@ const GROUPS: [(&str, fn() -> String); 17] = [
     ("lists of calls at capacities to 1,024", lists::middle),
     ("lists of calls at capacities to 32,768", lists::large),
     ("two trees of 16,384 nodes, linked", lists::halves),
+    ("what stays as it was, at capacities to 1,024", frame::lists),
+    ("what stays as it was, at capacities to 32,768", frame::large),
+    ("what stays as it was of tables that no list of calls makes", frame::unreachable),
     ("damaged tables", damage::tables),
     ("tables that no list of calls makes", damage::unreachable),
     ("good tables by the naive reading", refusals::undamaged),
@@ -44,6 +49,7 @@ const GROUPS: [(&str, fn() -> String); 17] = [
     ("byte trees that do not fit", trees::misfits),
     ("lists of calls on byte trees", trees::lists),
     ("damaged byte trees", trees::damaged),
+    ("written logs", logs::vectors),
     ("good and damaged logs", logs::logs),
 ];
 

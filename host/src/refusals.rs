@@ -43,7 +43,7 @@ enum Call {
 type Values = Vec<i32>;
 
 fn grown(g: Grown) -> Values {
-    vec![g.node.into(), g.rows.into()]
+    vec![g.node.into(), g.rows.into(), g.head.into()]
 }
 
 impl Call {

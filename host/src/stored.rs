@@ -1,7 +1,7 @@
 //! The stored trees of documents 01 and 02 by their own words: growths and links with every size, path, span and ancestor entry made from the rules,
 //! not from the engine.
 
-use crate::engine::{Grown, Table, BLANK, ENTRIES, FIELDS, NONE, NUMBERS};
+use crate::engine::{Grown, Linked, Table, BLANK, ENTRIES, FIELDS, NONE, NUMBERS};
 use crate::powers::POWERS;
 
 #[derive(Clone)]
@@ -51,22 +51,13 @@ fn lone() -> Row {
     }
 }
 
-/// A link that was made: the rows renumbered, and the rows that joined.
-#[derive(Clone, Copy, PartialEq, Debug)]
-pub struct Linked {
-    pub rows: u64,
-    pub joined: usize,
-}
-
 pub struct Stored {
     pub rows: Vec<Row>,
-    /// The row at whose subtree the last renumbering was made.
-    pub head: u16,
 }
 
 impl Stored {
     pub fn new() -> Stored {
-        Stored { rows: Vec::new(), head: NONE }
+        Stored { rows: Vec::new() }
     }
 
     fn row(&self, v: u16) -> &Row {
@@ -102,7 +93,7 @@ impl Stored {
     pub fn add_first(&mut self) -> Grown {
         let node = self.rows.len() as u16;
         self.rows.push(Row { root: node, ..lone() });
-        Grown { node, rows: self.join(node, NONE, 0, 0) }
+        self.join(node, NONE, 0, 0)
     }
 
     pub fn add_leaf(&mut self, parent: u16, label: u16) -> Grown {
@@ -131,11 +122,12 @@ impl Stored {
     fn grow(&mut self, parent: u16, label: u16, level: i32) -> Grown {
         let node = self.rows.len() as u16;
         self.rows.push(lone());
-        Grown { node, rows: self.join(node, parent, label, level) }
+        self.join(node, parent, label, level)
     }
 
     /// The tree of root x under v: its rows stand alone, then join level by level below x, by rising number within a level, each under its plain parent.
-    pub fn link(&mut self, x: u16, v: u16, label: u16) -> Linked {
+    /// What it answers, and how many rows joined.
+    pub fn link(&mut self, x: u16, v: u16, label: u16) -> (Linked, usize) {
         let receiving = self.first_row(v);
         let line = self.line(x);
         let rows = self.below(*line.last().expect("a line of rows"));
@@ -158,17 +150,16 @@ impl Stored {
             let label = if *w == x { label } else { self.row(*w).label };
             self.rows[*w as usize] = Row { label, ..lone() };
         }
-        let mut linked = Linked { rows: 0, joined: order.len() };
+        let (mut rows, joined) = (0, order.len());
         for (_, w) in order {
             let above = parent[w as usize];
-            linked.rows += u64::from(self.join(w, above, self.row(w).label, self.row(above).level + 1));
+            rows += u32::from(self.join(w, above, self.row(w).label, self.row(above).level + 1).rows);
         }
-        self.head = receiving;
-        linked
+        (Linked { rows, head: receiving.into() }, joined)
     }
 
-    /// A row that stands alone becomes a leaf; the rows renumbered.
-    fn join(&mut self, node: u16, parent: u16, label: u16, level: i32) -> u16 {
+    /// A row that stands alone becomes a leaf; the highest row of its chain that has grown by a fifth heads the renumbering.
+    fn join(&mut self, node: u16, parent: u16, label: u16, level: i32) -> Grown {
         let (depth, upper) = match parent {
             NONE => (0, NONE),
             p => (self.row(p).depth + 1, if self.is_apex(p) { p } else { self.row(p).upper }),
@@ -187,8 +178,7 @@ impl Stored {
             }
             v = row.upper;
         }
-        self.head = head;
-        self.renumber(head)
+        Grown { node, rows: self.renumber(head), head }
     }
 
     /// The rows at or below a row, parents first.

@@ -9,6 +9,8 @@ use crate::tally::{check, equal};
 
 pub const CAPACITY: usize = 128;
 const BYTES: usize = 36_866;
+/// The bytes that a growth answers.
+const GROWN: usize = 6;
 const LISTS: usize = 12;
 const DAMAGED: usize = 10_000;
 
@@ -76,7 +78,7 @@ impl Tree {
         }
     }
 
-    fn add_leaf(&mut self, parent: u16, label: u16, len: usize) -> Reply<[u16; 2]> {
+    fn add_leaf(&mut self, parent: u16, label: u16, len: usize) -> Reply<Grown> {
         let (mut out, tree) = (Lent::<u8>::marked(len), self.bytes.part_mut());
         let o = out.part_mut();
         let code = unsafe { raw::nca_add_leaf(tree.as_mut_ptr(), tree.len(), parent, label, o.as_mut_ptr(), o.len()) };
@@ -88,7 +90,7 @@ impl Tree {
         }
     }
 
-    fn add_root(&mut self, len: usize) -> Reply<[u16; 2]> {
+    fn add_root(&mut self, len: usize) -> Reply<Grown> {
         let (mut out, tree) = (Lent::<u8>::marked(len), self.bytes.part_mut());
         let o = out.part_mut();
         let code = unsafe { raw::nca_add_root(tree.as_mut_ptr(), tree.len(), o.as_mut_ptr(), o.len()) };
@@ -115,17 +117,19 @@ impl Tree {
     }
 }
 
-fn grown(out: &[u8]) -> [u16; 2] {
-    [u16::from_le_bytes([out[0], out[1]]), u16::from_le_bytes([out[2], out[3]])]
+/// Node, rows and head, low byte first.
+fn grown(out: &[u8]) -> Grown {
+    let number = |i: usize| u16::from_le_bytes([out[i], out[i + 1]]);
+    Grown { node: number(0), rows: number(2), head: number(4) }
 }
 
 /// Document 01's new root on a table of capacity 128, kept as bytes.
 pub fn add_root_to(table: &Table) -> Reply<Grown> {
     let bytes = encode(table);
     let mut tree = Tree::of(&bytes);
-    let reply = tree.add_root(4);
+    let reply = tree.add_root(GROWN);
     check(reply.is_ok() || tree.bytes.part() == bytes, || format!("new root on bytes gave {reply:?} and stored"));
-    reply.map(|[node, rows]| Grown { node, rows })
+    reply
 }
 
 /// The new root of the table form over the first tree's, which a byte tree does not name; none where the table form has no such call, since what row 0
@@ -151,17 +155,17 @@ fn step(tree: &mut Tree, random: &mut Random) {
     let node = |random: &mut Random| if random.one_in(24) { random.word() as u16 } else { random.below(count) as u16 };
     let (parent, label) = (node(random), if random.one_in(24) { [0, 9999, 10000][random.below(3)] } else { 1 + random.below(3) as u16 });
     let (found, expected) = if table.count == 0 || random.one_in(10) {
-        let found = tree.add_root(4);
+        let found = tree.add_root(GROWN);
         let Some(expected) = add_root(&mut table, &scratch) else {
             let read = Reading::of(&table).add_root_first_tree(CAPACITY);
-            equal(found, read.map(|g| [g.node, g.rows]), || format!("new root of a damaged byte tree of {count} nodes"));
+            equal(found, read, || format!("new root of a damaged byte tree of {count} nodes"));
             return;
         };
         (found, expected)
     } else {
-        (tree.add_leaf(parent, label, 4), table.add_leaf(&scratch, parent, label))
+        (tree.add_leaf(parent, label, GROWN), table.add_leaf(&scratch, parent, label))
     };
-    equal(found, expected.map(|g| [g.node, g.rows]), || format!("growth of a byte tree of {count} nodes"));
+    equal(found, expected, || format!("growth of a byte tree of {count} nodes"));
     check(tree.bytes.part() == encode(&table), || format!("a byte tree after growth to {count} nodes"));
     for _ in 0..2 {
         let (x, y) = (node(random), node(random));
@@ -215,15 +219,15 @@ pub fn misfits() -> String {
         let mut tree = Tree::of(&vec![0; len]);
         let what = || format!("a byte tree of {len} bytes");
         equal(tree.set_up(), Err(3), what);
-        equal(tree.add_leaf(0, 1, 4), Err(3), what);
-        equal(tree.add_root(4), Err(3), what);
+        equal(tree.add_leaf(0, 1, GROWN), Err(3), what);
+        equal(tree.add_root(GROWN), Err(3), what);
         equal(tree.query(0, 0, 16), Err(3), what);
         check(tree.bytes.part().iter().all(|b| *b == 0), || format!("{} was stored to", what()));
     }
     let mut tree = Tree::of(&vec![0; BYTES]);
     equal(tree.set_up(), Ok(()), || "set-up of a byte tree".into());
     let before = tree.bytes.part().to_vec();
-    for len in [0, 3, 5, 15, 17] {
+    for len in [0, 4, 5, 7, 15, 17] {
         equal(tree.add_leaf(0, 1, len), Err(3), || format!("leaf with an answer of {len} bytes"));
         equal(tree.add_root(len), Err(3), || format!("new root with an answer of {len} bytes"));
         equal(tree.query(0, 0, len), Err(3), || format!("question with an answer of {len} bytes"));

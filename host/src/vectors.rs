@@ -1,5 +1,4 @@
-//! Written lists of calls with every reply (host/vectors/lists.txt says how), and the tables that some of them leave; the stored trees beside them have
-//! the heads.
+//! Written lists of calls with every reply (host/vectors/lists.txt says how), and the tables that some of them leave; the stored trees beside them.
 
 use crate::engine::{Grown, Reply, Table, ENTRIES, FIELDS, NUMBERS, ROOT};
 use crate::lent::Lent;
@@ -40,13 +39,13 @@ impl List {
         List { number, table, stored: Stored::new(), capacity, total: 0, joinings: 0, rows: 0 }
     }
 
-    /// A growth's values and head, with the same growth of the stored trees.
+    /// A growth's values, with the same growth of the stored trees.
     fn grown(&mut self, found: Reply<Grown>, model: impl FnOnce(&mut Stored) -> Grown) -> Numbers {
         let grown = found?;
         equal(grown, model(&mut self.stored), || format!("a growth of the stored trees, list {}", self.number));
         self.total += u64::from(grown.rows);
         self.joinings += 1;
-        Ok(vec![i64::from(grown.node), i64::from(grown.rows), i64::from(self.stored.head)])
+        Ok(vec![i64::from(grown.node), i64::from(grown.rows), i64::from(grown.head)])
     }
 
     /// Document 01's new root: over that of row 0's tree.
@@ -59,12 +58,12 @@ impl List {
     }
 
     fn link(&mut self, scratch: &mut Lent<u16>, x: u16, v: u16, label: u16) -> Numbers {
-        let rows = self.table.link(scratch, x, v, label)?;
-        let linked = self.stored.link(x, v, label);
-        equal(u64::from(rows), linked.rows, || format!("a link of the stored trees, list {}", self.number));
-        self.total += u64::from(rows);
-        self.joinings += linked.joined as u64;
-        Ok(vec![i64::from(rows), i64::from(self.stored.head)])
+        let linked = self.table.link(scratch, x, v, label)?;
+        let (expected, joined) = self.stored.link(x, v, label);
+        equal(linked, expected, || format!("a link of the stored trees, list {}", self.number));
+        self.total += u64::from(linked.rows);
+        self.joinings += joined as u64;
+        Ok(vec![i64::from(linked.rows), i64::from(linked.head)])
     }
 
     fn call(&mut self, call: &str) -> Numbers {
@@ -95,13 +94,9 @@ impl List {
         }
     }
 
-    /// A call and its reply; the head may be left out.
+    /// A call and its reply.
     fn play(&mut self, call: &str, reply: &str) {
-        let (mut found, expected) = (self.call(call), written(reply));
-        if let (Ok(found), Ok(expected)) = (&mut found, &expected) {
-            found.truncate(expected.len());
-        }
-        equal(found, expected, || format!("{call} in list {}", self.number));
+        equal(self.call(call), written(reply), || format!("{call} in list {}", self.number));
     }
 
     /// The next row of the table.

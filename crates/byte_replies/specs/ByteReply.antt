@@ -7,10 +7,10 @@ use Rattle.byte_numbers.specs.Bytes.{bytes}
 use Rattle.byte_numbers.specs.Sign.{unsigned}
 use Rattle.replies.specs.Reply.{Reply, reply}
 
--- the new node, and the rows renumbered; the count stands in the tree
+-- the new node, the rows renumbered, and their head; the count stands in the tree
 abbrev pub grownBytes : List ℕ → GrowthOutcome → Reply ℕ
 grownBytes out (notGrown n) = reply n out
-grownBytes out (node c n k) = reply 0 (bytes 2 n ++ bytes 2 k)
+grownBytes out (node c n k h) = reply 0 (bytes 2 n ++ (bytes 2 k ++ bytes 2 h))
 
 -- the nearest common ancestor, the branches towards x and y, their distances, and the label
 abbrev pub questionBytes : List ℕ → Outcome → Reply ℕ

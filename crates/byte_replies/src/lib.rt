@@ -15,13 +15,14 @@ ghost use Rattle.replies.specs.Reply.{reply};
 ghost use Rattle.byte_replies.specs.ByteReply.{grownBytes, questionBytes};
 
 pub fn reply_grown(grown: Grown, out: &mut [u8]) -> u16
-    requires { ⌜ length (now out) ≡ 4 ⌝ }
+    requires { ⌜ length (now out) ≡ 6 ⌝ }
     ensures { λ r. ⌜ reply r (now (out .exit)) ≡ grownBytes (now (out .entry)) (growthOf grown) ⌝ }
 {
     match grown {
         Grown::Node(g) => {
             put16(out, 0, g.node);
             put16(out, 2, g.rows);
+            put16(out, 4, g.head);
             0
         }
         Grown::Refused(r) => number_of(r),

@@ -27,7 +27,7 @@ setUpCall t out = onLength 1 out (outcome (partsAfter t) (madeReply out (setUp t
 
 -- a growth's reply and parts
 unfoldable pub growthCall : Parts → List ℕ → Growth → Outcome
-growthCall t out g = onLength 3 out (outcome (g .parts) (grownReply out (g .outcome))) (outcome t (misfit out))
+growthCall t out g = onLength 4 out (outcome (g .parts) (grownReply out (g .outcome))) (outcome t (misfit out))
 
 -- of the scratch only its length counts, here and below
 abbrev pub firstCall : Parts → List ℕ → ℕ → State → Outcome
@@ -41,7 +41,7 @@ rootCall t out scratch s x = growthCall t out (addOver t scratch s x)
 
 -- a link's reply and parts
 abbrev pub afterLink : Parts → List ℕ → Link → Outcome
-afterLink t out l = onLength 1 out (outcome (l .parts) (linkReply out (l .outcome))) (outcome t (misfit out))
+afterLink t out l = onLength 2 out (outcome (l .parts) (linkReply out (l .outcome))) (outcome t (misfit out))
 
 unfoldable pub linkCall : Parts → List ℕ → ℕ → State → ℕ → ℕ → ℕ → Outcome
 linkCall t out scratch s x v door = afterLink t out (linkBy t scratch s x v door)

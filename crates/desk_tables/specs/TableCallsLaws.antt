@@ -37,29 +37,29 @@ module _ (t : Parts) (out : List ℕ) {r : ℕ} where
   unfolding setUpCall
   set-up-misfit h e = rw h (off-length 1 out _ (outcome t (misfit out)) e)
 
-  pub growth-misfit : (o : Growth) → r ≡ 3 → length out ≢ 3 → outcome t (reply r out) ≡ growthCall t out o
+  pub growth-misfit : (o : Growth) → r ≡ 3 → length out ≢ 4 → outcome t (reply r out) ≡ growthCall t out o
   unfolding growthCall
-  growth-misfit o h e = rw h (off-length 3 out _ (outcome t (misfit out)) e)
+  growth-misfit o h e = rw h (off-length 4 out _ (outcome t (misfit out)) e)
 
 module _ (t u : Parts) (out after : List ℕ) {r : ℕ} where
   pub set-up-served : (m : SetUpOutcome) → length out ≡ 1 → m ≡ setUp t → u ≡ partsAfter t → reply r after ≡ madeReply out m → outcome u (reply r after) ≡ setUpCall t out
   unfolding setUpCall
   set-up-served m e a b h = rw (h, a, b) (on-length 1 out (outcome (partsAfter t) (madeReply out (setUp t))) _ e)
 
-  pub growth-served : (g : GrowthOutcome) (o : Growth) → length out ≡ 3 → reply r after ≡ grownReply out g → growth.result u g ≡ o → outcome u (reply r after) ≡ growthCall t out o
+  pub growth-served : (g : GrowthOutcome) (o : Growth) → length out ≡ 4 → reply r after ≡ grownReply out g → growth.result u g ≡ o → outcome u (reply r after) ≡ growthCall t out o
   unfolding growthCall
-  growth-served g o e h a = rw (h, ← a) (on-length 3 out (outcome u (grownReply out g)) _ e)
+  growth-served g o e h a = rw (h, ← a) (on-length 4 out (outcome u (grownReply out g)) _ e)
 
 module _ (t : Parts) (out scratch : List ℕ) (s : State) (x v door : ℕ) {r : ℕ} where
-  pub link-misfit : r ≡ 3 → length out ≢ 1 → LinkCall t out scratch s x v door scratch (outcome t (reply r out))
+  pub link-misfit : r ≡ 3 → length out ≢ 2 → LinkCall t out scratch s x v door scratch (outcome t (reply r out))
   unfolding linkCall
-  link-misfit h e = record { outcome = rw h (off-length 1 out _ (outcome t (misfit out)) e); unchanged = λ _. refl }
+  link-misfit h e = record { outcome = rw h (off-length 2 out _ (outcome t (misfit out)) e); unchanged = λ _. refl }
 
-  pub link-served : (u : Parts) (after left : List ℕ) (l : Linked) → length out ≡ 1 → link.LinkCall t u scratch left s x v door l → reply r after ≡ linkReply out (linkOf l)
+  pub link-served : (u : Parts) (after left : List ℕ) (l : Linked) → length out ≡ 2 → link.LinkCall t u scratch left s x v door l → reply r after ≡ linkReply out (linkOf l)
       → LinkCall t out scratch s x v door left (outcome u (reply r after))
   unfolding linkCall
   link-served u after left l e q h = record {
-    outcome = rw (h, ← q .outcome) (on-length 1 out (outcome u (linkReply out (linkOf l))) _ e);
+    outcome = rw (h, ← q .outcome) (on-length 2 out (outcome u (linkReply out (linkOf l))) _ e);
     unchanged = go l q h;
   }
     where

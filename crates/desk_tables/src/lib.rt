@@ -18,9 +18,9 @@ ghost use Rattle.desk_tables.specs.TableCalls.{outcome, setUpCall, first
 // How many values each call has for its out slice.
 const MADE_OUT: usize = 1;
 
-const GROWN_OUT: usize = 3;
+const GROWN_OUT: usize = 4;
 
-const LINKED_OUT: usize = 1;
+const LINKED_OUT: usize = 2;
 
 const ANSWERED_OUT: usize = 6;
 
@@ -46,7 +46,7 @@ pub extern "C" fn nca_table_set_up(
     reply_made(made, out)
 }
 
-// A first node, which begins a tree. Out: count, node, rows renumbered.
+// A first node, which begins a tree. Out: count, node, rows renumbered, head.
 #[no_mangle]
 pub extern "C" fn nca_table_add_first(
     fields: &mut [u16],
@@ -67,7 +67,7 @@ pub extern "C" fn nca_table_add_first(
     reply_grown(grown, out)
 }
 
-// A new leaf. Out: count, node, rows renumbered.
+// A new leaf. Out: count, node, rows renumbered, head.
 #[no_mangle]
 pub extern "C" fn nca_table_add_leaf(
     fields: &mut [u16],
@@ -99,7 +99,7 @@ pub extern "C" fn nca_table_add_leaf(
     reply_grown(grown, out)
 }
 
-// A new root over x, the root of a tree. Out: count, node, rows renumbered.
+// A new root over x, the root of a tree. Out: count, node, rows renumbered, head.
 #[no_mangle]
 pub extern "C" fn nca_table_add_root(
     fields: &mut [u16],
@@ -121,7 +121,7 @@ pub extern "C" fn nca_table_add_root(
     reply_grown(grown, out)
 }
 
-// The tree of root x under v, a node of another tree; x takes the label. Out: rows renumbered.
+// The tree of root x under v, a node of another tree; x takes the label. Out: rows renumbered, head.
 #[no_mangle]
 pub extern "C" fn nca_table_link(
     fields: &mut [u16],

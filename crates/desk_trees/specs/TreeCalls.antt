@@ -42,12 +42,12 @@ setUpTree b = onLength treeBytes b (madeBytes b (setUp (partsIn b)) (partsAfter 
 -- the tree after a growth that left these parts: as it was on a refusal
 abbrev pub treeAfter : List ℕ → Parts → GrowthOutcome → List ℕ
 treeAfter b t (notGrown n) = b
-treeAfter b t (node c n k) = encoded (stateOf c) t
+treeAfter b t (node c n k h) = encoded (stateOf c) t
 
 -- and what they hold after a growth that was served
 abbrev pub GrownHeld : List ℕ → Parts → GrowthOutcome → Type 0
 GrownHeld b t (notGrown n) = Unit {0}
-GrownHeld b t (node c n k) = Held b (stateOf c) t
+GrownHeld b t (node c n k h) = Held b (stateOf c) t
 
 abbrev pub GrowthHeld : List ℕ → Growth → Type 0
 GrowthHeld b g = GrownHeld b (g .parts) (g .outcome)
@@ -58,7 +58,7 @@ afterGrowth b out g = outcome (treeAfter b (g .parts) (g .outcome)) (grownBytes 
 
 -- a growth, where the tree and the out slice have their lengths
 abbrev pub onLengths : List ℕ → List ℕ → Growth → Outcome
-onLengths b out g = onLength treeBytes b (onLength 4 out (afterGrowth b out g) (outcome b (misfit out))) (outcome b (misfit out))
+onLengths b out g = onLength treeBytes b (onLength 6 out (afterGrowth b out g) (outcome b (misfit out))) (outcome b (misfit out))
 
 unfoldable pub leafTree : List ℕ → List ℕ → ℕ → ℕ → Outcome
 leafTree b out parent label = onLengths b out (addLeaf (partsIn b) treeRows (stateIn b) parent label)

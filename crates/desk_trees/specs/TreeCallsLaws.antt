@@ -76,16 +76,16 @@ module _ (b after : List ℕ) (u t : Parts) (s : State) (g : GrowthOutcome) (i :
 
 module _ (b out : List ℕ) {r : ℕ} where
   grown-tree-misfit : (o : Growth) → r ≡ 3 → length b ≢ treeBytes → outcome b (reply r out) ≡ onLengths b out o
-  grown-tree-misfit o h e = rw h (tree-misfit b out 4 (afterGrowth b out o) (outcome b (misfit out)) e)
+  grown-tree-misfit o h e = rw h (tree-misfit b out 6 (afterGrowth b out o) (outcome b (misfit out)) e)
 
-  grown-out-misfit : (o : Growth) → r ≡ 3 → length b ≡ treeBytes → length out ≢ 4 → outcome b (reply r out) ≡ onLengths b out o
-  grown-out-misfit o h e f = rw h (out-misfit b out 4 (afterGrowth b out o) (outcome b (misfit out)) e f)
+  grown-out-misfit : (o : Growth) → r ≡ 3 → length b ≡ treeBytes → length out ≢ 6 → outcome b (reply r out) ≡ onLengths b out o
+  grown-out-misfit o h e f = rw h (out-misfit b out 6 (afterGrowth b out o) (outcome b (misfit out)) e f)
 
   pub leaf-tree-misfit : (parent label : ℕ) → r ≡ 3 → length b ≢ treeBytes → outcome b (reply r out) ≡ leafTree b out parent label
   unfolding leafTree
   leaf-tree-misfit parent label = grown-tree-misfit (addLeaf (partsIn b) treeRows (stateIn b) parent label)
 
-  pub leaf-out-misfit : (parent label : ℕ) → r ≡ 3 → length b ≡ treeBytes → length out ≢ 4 → outcome b (reply r out) ≡ leafTree b out parent label
+  pub leaf-out-misfit : (parent label : ℕ) → r ≡ 3 → length b ≡ treeBytes → length out ≢ 6 → outcome b (reply r out) ≡ leafTree b out parent label
   unfolding leafTree
   leaf-out-misfit parent label = grown-out-misfit (addLeaf (partsIn b) treeRows (stateIn b) parent label)
 
@@ -93,14 +93,14 @@ module _ (b out : List ℕ) {r : ℕ} where
   unfolding rootTree
   root-tree-misfit = grown-tree-misfit (addRoot (partsIn b) treeRows (stateIn b))
 
-  pub root-out-misfit : r ≡ 3 → length b ≡ treeBytes → length out ≢ 4 → outcome b (reply r out) ≡ rootTree b out
+  pub root-out-misfit : r ≡ 3 → length b ≡ treeBytes → length out ≢ 6 → outcome b (reply r out) ≡ rootTree b out
   unfolding rootTree
   root-out-misfit = grown-out-misfit (addRoot (partsIn b) treeRows (stateIn b))
 
-  module _ (after outAfter : List ℕ) (u t : Parts) (s : State) (g : GrowthOutcome) (e : length b ≡ treeBytes) (f : length out ≡ 4) (i : u ≡ partsIn b) (j : s ≡ stateIn b)
+  module _ (after outAfter : List ℕ) (u t : Parts) (s : State) (g : GrowthOutcome) (e : length b ≡ treeBytes) (f : length out ≡ 6) (i : u ≡ partsIn b) (j : s ≡ stateIn b)
       (k : after ≡ treeAfter b t g) (h : reply r outAfter ≡ grownBytes out g) where
     kept : outcome after (reply r outAfter) ≡ onLengths b out (growth.result t g)
-    kept = rw (k, h) (both-fit b out 4 (outcome (treeAfter b t g) (grownBytes out g)) (outcome b (misfit out)) e f)
+    kept = rw (k, h) (both-fit b out 6 (outcome (treeAfter b t g) (grownBytes out g)) (outcome b (misfit out)) e f)
 
     pub leaf-kept : (parent label : ℕ) → growth.result t g ≡ addLeaf u treeRows s parent label → outcome after (reply r outAfter) ≡ leafTree b out parent label
     unfolding leafTree

@@ -26,7 +26,7 @@ ghost use Rattle.replies.specs.Reply.{reply};
 ghost use Rattle.desk_trees.specs.TreeCalls.{outcome, madeBytes, MadeHeld, setUpTree, treeAfter, GrownHeld, GrowthHeld, leafTree, rootTree, questionTree};
 
 // How many bytes each call has for its out slice.
-const GROWN_OUT: usize = 4;
+const GROWN_OUT: usize = 6;
 
 const ANSWERED_OUT: usize = 16;
 
@@ -94,7 +94,7 @@ pub extern "C" fn nca_set_up(tree: &mut [u8]) -> u16
     keep_made(tree, &fields, &numbers, &levels, &ancestors, made)
 }
 
-// A new leaf. Out: node, rows renumbered.
+// A new leaf. Out: node, rows renumbered, head.
 #[no_mangle]
 pub extern "C" fn nca_add_leaf(tree: &mut [u8], parent: u16, label: u16, out: &mut [u8]) -> u16
     ensures answer { λ r. ⌜ outcome (now (tree .exit)) (reply r (now (out .exit))) ≡ leafTree (now (tree .entry)) (now (out .entry)) parent label ⌝ }
@@ -127,7 +127,7 @@ pub extern "C" fn nca_add_leaf(tree: &mut [u8], parent: u16, label: u16, out: &m
     reply_grown(grown, out)
 }
 
-// A first node in an empty tree, else a new root over the first tree's, as a byte tree keeps to it. Out: node, rows renumbered.
+// A first node in an empty tree, else a new root over the first tree's, as a byte tree keeps to it. Out: node, rows renumbered, head.
 #[no_mangle]
 pub extern "C" fn nca_add_root(tree: &mut [u8], out: &mut [u8]) -> u16
     ensures answer { λ r. ⌜ outcome (now (tree .exit)) (reply r (now (out .exit))) ≡ rootTree (now (tree .entry)) (now (out .entry)) ⌝ }

@@ -25,22 +25,22 @@ abbrev pub result : Parts → Outcome → Result
 result t o = record { outcome = o; parts = t }
 
 -- the outcome of a growth that was served: its row is the old count
-abbrev pub nodeAt : ℕ → ℕ → Outcome
-nodeAt row rows = node (oneMore row) row rows
+abbrev pub nodeAt : ℕ → ℕ → ℕ → Outcome
+nodeAt row rows head = node (oneMore row) row rows head
 
--- a growth that was served
+-- a growth that was served: the head is the one of its seat
 unfoldable pub served : Plan → Stored → Result
-served g s = result (s .parts) (nodeAt (g .seat .leaf .row) (s .given))
+served g s = result (s .parts) (nodeAt (g .seat .leaf .row) (s .given) (g .seat .head .row))
 
 -- the fields with a first node n: a row that stands alone, of label 0, its own root
 unfoldable pub startedFields : List ℕ → ℕ → List ℕ
 startedFields f n = withField (withField (loneFields f n) n labelPlace 0) n rootPlace n
 
--- a first node that was served
+-- a first node that was served: one row is numbered, and it heads itself
 unfoldable pub started : Parts → ℕ → Result
 started t n =
     result (partsOf (startedFields (t .fields) n) (loneNumbers (t .numbers) n) (withLevel (t .levels) n (pos 0)) (loneEntries (t .ancestors) n))
-    (nodeAt n 1)
+    (nodeAt n 1 n)
 
 -- by its plan: a refusal changes nothing
 unfoldable pub grownBy : Parts → Planned → Result

@@ -16,6 +16,7 @@ use Rattle.table.specs.Table.{Table, tableOf}
 use Rattle.table.specs.Rules.{Rules, numbered}
 use Rattle.join_laws.specs.Extend.{extended-by}
 use Rattle.growth_laws.specs.Grown.{Started}
+use Rattle.growth_laws.specs.GrowthFrame.{StartFrame}
 use Rattle.growth_laws.specs.GrowthKeepsRules.{start-keeps-rules, start-plain}
 use Rattle.join_laws.specs.Lag.{lag, worth, perJoin}
 use Rattle.join_laws.specs.LoneLaws.{parted-lag}
@@ -34,8 +35,8 @@ use Rattle.growth_exact.specs.GrowthExact.{tableGrown, capacity-is, stan
 
 -- a first node of the parts p, of capacity c, came out as o: served, and as 02 has it
 pub record StartedExactly (c : ℕ) (p : Parts) (s : State) (o : Result) : Type 0 where
-  -- the new number is the old count, and one row was numbered
-  pub answered : o .outcome ≡ node (suc (s .count)) (s .count) 1
+  -- the new number is the old count, one row was numbered, and it heads itself
+  pub answered : o .outcome ≡ node (suc (s .count)) (s .count) 1 (s .count)
   -- the parts keep their lengths
   pub fits : Fits c (o .parts)
   -- one row more, that stands alone and is its own root; the others are as they were
@@ -44,6 +45,8 @@ pub record StartedExactly (c : ℕ) (p : Parts) (s : State) (o : Result) : Type 
   pub rules : Rules c (tableGrown s o)
   -- the plain trees are one step of the plain list on
   pub plain : PlainStart (tableOf p (s .count)) (tableGrown s o)
+  -- what did not change: every other row
+  pub frame : StartFrame c (tableOf p (s .count)) (tableGrown s o)
   -- the row is paid for
   pub pays : worth * lag (tableGrown s o .layer) + 1 ≤ worth * lag (tableOf p (s .count) .layer) + perJoin
 
@@ -68,21 +71,28 @@ module _ {c : ℕ} (p : Parts) (s : State) (fit : Fits c p) (r : Rules c (tableO
   same j b = put-other (put (own (layerParts p) (long-parts fit) n room) labelPlace 0) rootPlace n j (λ e. omega arith)
       ∙ put-other (own (layerParts p) (long-parts fit) n room) labelPlace 0 j (λ e. omega arith)
 
+  start-frame : StartFrame c t (tableOf left (suc n))
+  start-frame x l d = record {
+    row = kept-in (layerParts p) (long-parts fit) n room view same n (suc n) x d;
+    marks = record {
+      sameLabel = view .others x labelPlace (omega arith) d;
+      sameLevel = getD-set-other (p .levels) n x (pos 0) (pos 0) d;
+    };
+    sameRoot = view .others x rootPlace (omega arith) d;
+  }
+
   started-is : Started t (tableOf left (suc n))
   unfolding put
   started-is =
       record {
         extended = extended-by (numbered r (fit .most)) (omega (arith, fit .most)) refl
             (lone-in (layerParts p) (long-parts fit) n room view same (suc n))
-            (λ x l. kept-in (layerParts p) (long-parts fit) n room view same n (suc n) x (λ e. omega arith));
-        marks = λ x l. record {
-          sameLabel = view .others x labelPlace (omega arith) (λ e. omega arith);
-          sameLevel = getD-set-other (p .levels) n x (pos 0) (pos 0) (λ e. omega arith);
-        };
+            (λ x l. start-frame x (omega arith) (λ e. omega arith) .row);
+        marks = λ x l. start-frame x (omega arith) (λ e. omega arith) .marks;
         labelNew = view .own labelPlace (omega arith);
         levelNew = getD-set-same (p .levels) n (pos 0) (pos 0) (omega (arith, fit .levels));
         rootNew = view .own rootPlace (omega arith);
-        roots = λ x l. view .others x rootPlace (omega arith) (λ e. omega arith);
+        roots = λ x l. start-frame x (omega arith) (λ e. omega arith) .sameRoot;
       }
 
   start-exactly : StartedExactly c p s (grownBy p (Start n))
@@ -90,7 +100,7 @@ module _ {c : ℕ} (p : Parts) (s : State) (fit : Fits c p) (r : Rules c (tableO
   start-exactly =
       let f = lone-long (layerParts p) (long-parts fit) n room in
       record {
-        answered = count-more n p fit room 1;
+        answered = count-more n p fit room 1 n;
         fits = record {
           least = fit .least;
           most = fit .most;
@@ -102,6 +112,7 @@ module _ {c : ℕ} (p : Parts) (s : State) (fit : Fits c p) (r : Rules c (tableO
         started = started-is;
         rules = start-keeps-rules r (fit .most) room started-is;
         plain = start-plain r (fit .most) room started-is;
+        frame = start-frame;
         pays = omega (arith, parted-lag (numbered r (fit .most)) (started-is .extended .parted));
       }
 

@@ -25,12 +25,13 @@ use Rattle.layer_laws.specs.Numbered.{InTree, in-tree, first-is}
 use Rattle.table_laws.specs.LevelBounds.{level-small}
 use Rattle.table_laws.specs.Lines.{root-in}
 use Rattle.table_laws.specs.TreeTests.{tree-is, root-is}
-use Rattle.growth_laws.specs.Growth.{Growth, leaf, root, Named, named-leaf, named-root, parentOf, labelOf, levelOf, treeOf}
+use Rattle.growth_laws.specs.Growth.{Growth, leaf, root, Named, named-leaf, named-root, labelOf, levelOf, treeOf}
 use Rattle.join_laws.specs.Extend.{withLone}
 use Rattle.growth_laws.specs.Grown.{Grown}
 use Rattle.growth_laws.specs.GrownLaws.{growth-pays}
-use Rattle.join_laws.specs.Frame.{Frame, HeadRows}
-use Rattle.join_laws.specs.FrameLaws.{join-frame, join-head}
+use Rattle.join_laws.specs.Frame.{HeadRows}
+use Rattle.join_laws.specs.FrameLaws.{join-head}
+use Rattle.growth_laws.specs.GrowthFrame.{GrowthFrame}
 use Rattle.growth_laws.specs.GrowthKeepsRules.{growth-plain}
 use Rattle.join_laws.specs.Lag.{lag, worth, perJoin}
 use Rattle.growth_laws.specs.PlainStep.{PlainStep}
@@ -46,7 +47,7 @@ use Rattle.growth.specs.Outcome.{node}
 use Rattle.growth.specs.Growth.{Result, result, nodeAt, served, grownBy, addLeaf, addOver, addRoot}
 use Rattle.renumber_exact.specs.SizeWalkExact.{more-one}
 use Rattle.growth_exact.specs.PlanExact.{plan, joinedParts, plan-stored, plan-fits, plan-step}
-use Rattle.growth_exact.specs.GrowthSite.{site, level-planned, grows, headRow, tableGrown as tableJoined, grown, grown-rules}
+use Rattle.growth_exact.specs.GrowthSite.{site, level-planned, grows, headRow, tableGrown as tableJoined, grown, grown-rules, site-frame}
 
 -- the table that stands after a growth
 abbrev pub tableGrown : State → Result → Table
@@ -56,8 +57,8 @@ tableGrown s o = tableOf (o .parts) (suc (s .count))
 pub record GrownExactly (c : ℕ) (p : Parts) (s : State) (g : Growth) (o : Result) : Type 0 where
   -- the head that was renumbered
   pub head : ℕ
-  -- the new number is the old count; the rows answered are those at or below the head in the stored tree
-  pub answered : o .outcome ≡ node (suc (s .count)) (s .count) (rows (tableGrown s o .layer) head)
+  -- the new number is the old count; the rows answered are those at or below the head in the stored tree; the head is answered last
+  pub answered : o .outcome ≡ node (suc (s .count)) (s .count) (rows (tableGrown s o .layer) head) head
   -- the parts keep their lengths
   pub fits : Fits c (o .parts)
   -- row, head and renumbering as 01 has them
@@ -68,8 +69,9 @@ pub record GrownExactly (c : ℕ) (p : Parts) (s : State) (g : Growth) (o : Resu
   pub rules : Rules c (tableGrown s o)
   -- the plain trees are one step of the plain list on
   pub plain : PlainStep (tableOf p (s .count)) (tableGrown s o) g
-  -- what changed, and what did not, against the table in which the new row stands alone
-  pub frame : Frame (withLone (tableOf p (s .count) .layer)) (tableGrown s o .layer) (s .count) (parentOf g) head
+  -- what did not change
+  pub frame : GrowthFrame c (tableOf p (s .count)) (tableGrown s o) g head
+  -- the rows of the head, against the table in which the new row stands alone
   pub headRows : HeadRows (withLone (tableOf p (s .count) .layer)) (tableGrown s o .layer) (s .count) head
   -- the rows renumbered are paid for
   pub pays : worth * lag (tableGrown s o .layer) + rows (tableGrown s o .layer) head ≤ worth * lag (tableOf p (s .count) .layer) + perJoin
@@ -82,10 +84,10 @@ capacity-is p fit = rw (fit .levels) at (capacity-fits p (rw (fit .levels) fit))
 pub standing-is : {c : ℕ} (p : Parts) (s : State) → Rules c (tableOf p (s .count)) → isStanding c s ≡ true
 standing-is {c} p s r = says-true (says-standing c s) (r .one .trees .count)
 
-pub count-more : (n : ℕ) {c : ℕ} (p : Parts) → Fits c p → n < c → (k : ℕ) → nodeAt n k ≡ node (suc n) n k
-count-more n p fit room k =
+pub count-more : (n : ℕ) {c : ℕ} (p : Parts) → Fits c p → n < c → (k h : ℕ) → nodeAt n k h ≡ node (suc n) n k h
+count-more n p fit room k h =
     let more : n + 1 ≡ suc n = omega arith in
-    ap (λ (m : ℕ). node m n k) (more-one n (omega (arith, fit .most)) ∙ more)
+    ap (λ (m : ℕ). node m n k h) (more-one n (omega (arith, fit .most)) ∙ more)
 
 -- the root of a tree, as the code reads it, is a row in use
 pub rooted : {c : ℕ} (p : Parts) (s : State) → Fits c p → Rules c (tableOf p (s .count)) → (x : ℕ) → x < s .count
@@ -107,11 +109,11 @@ module _ {c : ℕ} (p : Parts) (s : State) (fit : Fits c p) (r : Rules c (tableO
   h = headRow p (s .count) fit r room g named
 
   abbrev left : Result
-  left = result (joinedParts fit (site p (s .count) fit r room g named) (levelOf t g) (labelOf g) (treeOf t g)) (nodeAt (s .count) (rows (d .layer) h))
+  left = result (joinedParts fit (site p (s .count) fit r room g named) (levelOf t g) (labelOf g) (treeOf t g)) (nodeAt (s .count) (rows (d .layer) h) h)
 
   outcome-is : grownBy p (Grow (plan fit (site p (s .count) fit r room g named) (levelOf t g) (labelOf g) (treeOf t g))) ≡ left
   unfolding grownBy served
-  outcome-is = ap (λ (x : Stored). result (x .parts) (nodeAt (s .count) (x .given))) (plan-stored fit (site p (s .count) fit r room g named) (levelOf t g) (labelOf g) (treeOf t g))
+  outcome-is = ap (λ (x : Stored). result (x .parts) (nodeAt (s .count) (x .given) h)) (plan-stored fit (site p (s .count) fit r room g named) (levelOf t g) (labelOf g) (treeOf t g))
 
   left-exactly : GrownExactly c p s g left
   left-exactly =
@@ -120,13 +122,13 @@ module _ {c : ℕ} (p : Parts) (s : State) (fit : Fits c p) (r : Rules c (tableO
       let after = grown-rules p (s .count) fit r room g named in
       record {
         head = h;
-        answered = count-more (s .count) p fit room (rows (d .layer) h);
+        answered = count-more (s .count) p fit room (rows (d .layer) h) h;
         fits = plan-fits fit i (levelOf t g) (labelOf g) (treeOf t g);
         grown = k;
         order = order-after (numbered after (fit .most)) (k .step .renumbered);
         rules = after;
         plain = growth-plain r (fit .most) room k;
-        frame = join-frame (i .was) (plan-step fit i (levelOf t g) (labelOf g) (treeOf t g));
+        frame = site-frame p (s .count) fit r room g named;
         headRows = join-head (i .was) (plan-step fit i (levelOf t g) (labelOf g) (treeOf t g));
         pays = growth-pays (numbered r (fit .most)) k;
       }

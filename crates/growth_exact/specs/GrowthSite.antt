@@ -25,6 +25,8 @@ use Rattle.table_laws.specs.LevelBounds.{level-depth, abs-suc, abs-pred}
 use Rattle.growth_laws.specs.Growth.{Growth, leaf, root, Named, named-leaf, named-root, parentOf, labelOf, levelOf, treeOf}
 use Rattle.join_laws.specs.Extend.{withLone, row-old, entry-old, extend, extend-alone}
 use Rattle.growth_laws.specs.Grown.{Grown}
+use Rattle.growth_laws.specs.GrowthFrame.{GrowthFrame}
+use Rattle.growth_laws.specs.GrowthFrameLaws.{grown-frame}
 use Rattle.growth_laws.specs.GrowthKeepsRules.{growth-keeps-rules}
 use Rattle.join_laws.specs.LoneLaws.{parted-numbered}
 use Rattle.join_laws.specs.Renumbered.{rows}
@@ -37,7 +39,7 @@ use Rattle.growth.specs.PlannedRow.{plannedRow}
 use Rattle.renumber_laws.specs.Column.{put}
 use Rattle.join_exact.specs.Site.{Site}
 use Rattle.join_exact.specs.SeatExact.{h}
-use Rattle.growth_exact.specs.PlanExact.{layerParts, long-parts, plan, row-planned, joinedTable, plan-step, mark-label, mark-level, kept-label, kept-level, plan-roots}
+use Rattle.growth_exact.specs.PlanExact.{layerParts, long-parts, plan, row-planned, joinedTable, plan-step, mark-label, mark-level, kept-label, kept-level, plan-roots, plan-unused}
 
 -- a row that the walks read passes the check, in a layer that is numbered
 pub good-row : {t : Layer} → Numbered t → (y : ℕ) → y < t .count → isRow (t .count) (t .row) y ≡ true
@@ -83,10 +85,11 @@ module _ {c : ℕ} (p : Parts) (n : ℕ) (fit : Fits c p) (r : Rules c (tableOf 
     deep = λ y o. omega (arith, ap (λ (r : Row). r .depth) (row-old (t .layer) y (old-in y o)), depth-below (shape num) y (old-in y o));
   }
 
-  tree-in : (treeOf t g ≡ none) ⊎ (treeOf t g < c)
-  tree-in = go named
+  -- for every m past the rows in use
+  tree-in : (m : ℕ) → n ≤ m → (treeOf t g ≡ none) ⊎ (treeOf t g < m)
+  tree-in m i = go named
     where
-      go : {g : Growth} → Named t g → (treeOf t g ≡ none) ⊎ (treeOf t g < c)
+      go : {g : Growth} → Named t g → (treeOf t g ≡ none) ⊎ (treeOf t g < m)
       go (named-leaf l a b) = inl refl
       go (named-root {r = v} l e) = inr (omega (arith, first-in num (in-tree num v l)))
 
@@ -120,8 +123,11 @@ module _ {c : ℕ} (p : Parts) (n : ℕ) (fit : Fits c p) (r : Rules c (tableOf 
     };
     labelNew = mark-label fit site (levelOf t g) (labelOf g) (treeOf t g);
     levelNew = mark-level fit site (levelOf t g) (labelOf g) (treeOf t g);
-    roots = λ x l. plan-roots fit site (levelOf t g) (labelOf g) (treeOf t g) tree-in x (omega arith) (λ e. omega arith);
+    roots = λ x l. plan-roots fit site (levelOf t g) (labelOf g) (treeOf t g) (tree-in c (omega arith)) x (omega arith) (λ e. omega arith);
   }
 
   pub grown-rules : Rules c tableGrown
   grown-rules = growth-keeps-rules r (fit .most) room grown
+
+  pub site-frame : GrowthFrame c t tableGrown g headRow
+  site-frame = grown-frame num grown (λ x i l. plan-unused fit site (levelOf t g) (labelOf g) (treeOf t g) (tree-in (suc n) (omega arith)) n x (omega arith) l)

@@ -1,7 +1,7 @@
 -- At a site a row is planned with its marks, and what is stored by the plan is a join in the layer, with the label, the level and the root record asked for.
 use mathlib.Core.Path.{_≡_, ap, sym, _∙_}
-use mathlib.Core.Logic.{_⊎_, _≢_}
-use Prim.Native.Nat.{ℕ, _<_}
+use mathlib.Core.Logic.{_⊎_, inl, inr, _≢_}
+use Prim.Native.Nat.{ℕ, _≤_, _<_}
 use native.Mathlib.Omega.{arith}
 use lib.IntN.{ℤ, pos}
 use lib.ListN.{length-set}
@@ -17,16 +17,17 @@ use Rattle.table.specs.Table.{Table, tableOf}
 use Rattle.renumber.specs.NumberWalk.{Written, written}
 use Rattle.join_laws.specs.JoinStep.{JoinStep}
 use Rattle.join_laws.specs.Renumbered.{rows}
+use Rattle.growth_laws.specs.GrowthFrame.{Untouched}
 use Rattle.growth.specs.declared.plan.Plan.{Plan}
 use Rattle.growth.specs.declared.plan.Planned.the-variants.{Grow}
 use Rattle.growth.specs.PlannedRow.{plannedRow}
 use Rattle.growth.specs.PlannedRowLaws.{on-seat}
 use Rattle.growth.specs.Store.{Stored, stored, marked, withMarks, planStored}
-use Rattle.renumber_laws.specs.Column.{put}
+use Rattle.renumber_laws.specs.Column.{put, put-other}
 use Rattle.renumber_exact.specs.Lent.{Long}
 use Rattle.renumber_exact.specs.Columns.{Holds, put-at}
 use Rattle.join_exact.specs.Site.{Site}
-use Rattle.join_exact.specs.SeatExact.{h, seat, seat-found, joinedParts as joined, joinedLayer, site-stored, site-long, site-step, site-rest}
+use Rattle.join_exact.specs.SeatExact.{h, seat, seat-found, joinedParts as joined, joinedLayer, site-stored, site-long, site-step, site-rest, site-unused}
 use Rattle.growth_exact.specs.MarksExact.{marked-holds, marked-layer, label-new, label-old, root-after}
 
 -- the parts of a table that are its layer's
@@ -94,3 +95,21 @@ module _ {c k : ℕ} {p : Parts} {t : Layer} {z v : ℕ} (fit : Fits c p) (s : S
   pub plan-roots : (tree ≡ none) ⊎ (tree < c) → (y : ℕ) → y < c → y ≢ z → joinedTable .root y ≡ put (λ x. fieldAt (p .fields) x rootPlace) tree z y
   plan-roots i y b d = root-after holds z label tree row-in i y b d
       ∙ put-at (λ x. fieldAt (joined s .fields) x rootPlace) (λ x. fieldAt (p .fields) x rootPlace) tree z y (site-rest s y rootPlace (omega arith) (omega arith))
+
+  -- a row that is not in use, against the table of n rows before
+  pub plan-unused : (tree ≡ none) ⊎ (tree < t .count) → (n x : ℕ) → t .count ≤ x → x < c → Untouched (tableOf p n) joinedTable x
+  plan-unused o n x i l =
+      let d : x ≢ z = λ e. omega (arith, s .alone .inside) in
+      record {
+        row = rw layer-same (site-unused s n x i l);
+        marks = record { sameLabel = kept-label x d; sameLevel = kept-level x d };
+        sameRoot = plan-roots (within o) x l d ∙ put-other (λ y. fieldAt (p .fields) y rootPlace) tree z x (λ e. past e o);
+      }
+    where
+      within : (tree ≡ none) ⊎ (tree < t .count) → (tree ≡ none) ⊎ (tree < c)
+      within (inl e) = inl e
+      within (inr j) = inr (omega (arith, s .room))
+
+      past : x ≡ tree → (tree ≡ none) ⊎ (tree < t .count) → ⊥
+      past e (inl j) = omega (arith, fit .most)
+      past e (inr j) = omega arith

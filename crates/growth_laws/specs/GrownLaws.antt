@@ -25,13 +25,13 @@ module _ {t d : Table} {g : Growth} {h : ℕ} (r : Numbered (t .layer)) (k : Gro
   pub growth-numbered : Numbered (d .layer)
   growth-numbered = join-keeps (extended-numbered r (k .extended)) (k .step)
 
-  planted : Planted (k .alone) (d .layer) (t .layer .count) (parentOf g)
+  pub planted : Planted (k .alone) (d .layer) (t .layer .count) (parentOf g)
   planted = step-planted (k .step)
 
   pub growth-count : d .layer .count ≡ suc (t .layer .count)
   growth-count = planted .count ∙ k .extended .count
 
-  other : {x : ℕ} → x < t .layer .count → Old (k .alone .count) (t .layer .count) x
+  pub other : {x : ℕ} → x < t .layer .count → Old (k .alone .count) (t .layer .count) x
   other l = record { inside = omega (arith, k .extended .count); other = λ e. omega arith }
 
   pub parent-old : (x : ℕ) → x < t .layer .count → parent (d .layer) x ≡ parent (t .layer) x

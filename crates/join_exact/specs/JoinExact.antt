@@ -10,7 +10,7 @@ use borrow.Author.Tests.{ne-eqb, eq-eqb}
 use lib.Dec.{eqb}
 use Rattle.laws.specs.Test.{pick}
 use Rattle.tree_laws.specs.Ancestor.{none}
-use Rattle.tree_laws.specs.AncestorLaws.{row-some}
+use Rattle.tree_laws.specs.AncestorLaws.{row-some, anc-in}
 use Rattle.tree_laws.specs.ChildLinks.{Chain, end, link, Member}
 use Rattle.tree_laws.specs.Chains.{lastFrom, lastOf}
 use Rattle.tree_laws.specs.Compressed.{UpperStep}
@@ -23,6 +23,7 @@ use Rattle.layer.specs.Row.{fieldAt}
 use Rattle.layer.specs.Layer.{Layer, parent, depth, upper, path, size}
 use Rattle.layer.specs.StoredTree.{Child}
 use Rattle.join_laws.specs.Joined.{LinksAfter, Planted, Joined}
+use Rattle.join_laws.specs.Lone.{Kept}
 use Rattle.join_laws.specs.JoinedLaws.{upper-alone}
 use Rattle.join_laws.specs.Chains.{size-most}
 use Rattle.join_laws.specs.Trees.{OwnTrees, own-trees, stored, uppers, parent-upper}
@@ -246,3 +247,28 @@ module _ {c k : ℕ} {p : Written} {t : Layer} {z v : ℕ} (s : Site c p k t z v
     ];
     sizeRest = λ x o d. attached-is .sizeRest x (o .other) (λ _ g. d (anc-new (uppers trees) joins g)) ∙ column (λ (r : Row). r .size) x o;
   }
+
+  -- a row that is not in use is as it was, however many were in use before
+  pub joined-unused : (before x : ℕ) → n ≤ x → x < c → Kept (layerIn p before) between x
+  joined-unused before x i l =
+      let z-other : x ≢ z = other z-in in
+      record {
+        sameParent = attached-is .kept x parentPlace z-other quietParent;
+        sameDepth = attached-is .kept x depthPlace z-other quietDepth;
+        sameFirst = first-is x l z-other ∙ put-other (λ y. fieldAt (p .fields) y firstPlace) v _ x (other (s .over .inside));
+        sameLast = last-is x l z-other ∙ put-other (λ y. fieldAt (p .fields) y lastPlace) v z x (other (s .over .inside));
+        sameNext = next-is x l z-other ∙ put-other (λ y. fieldAt (p .fields) y nextPlace) w z x (elim w-link [
+          | inl e ↦ λ y. omega (arith, s .long .most)
+          | inr o ↦ other (o .inside)
+        ]);
+        sameUpper = attached-is .kept x upperPlace z-other quietUpper;
+        samePath = attached-is .kept x pathPlace z-other quietPath;
+        sameSize = attached-is .sizeRest x z-other (λ _ a. other (anc-in (uppers trees) (upper-in .inside) a) refl);
+        sameSetSize = attached-is .kept x setSizePlace z-other quietSetSize;
+        sameStart = refl;
+        sameNextFree = refl;
+        sameEntry = λ j b. refl;
+      }
+    where
+      other : {y : ℕ} → y < n → x ≢ y
+      other j e = omega arith

@@ -3,7 +3,7 @@ use mathlib.Core.Path.{_≡_, refl, ap, sym, _∙_}
 use mathlib.Core.Bool.{Bool, true, false, _||_, not}
 use mathlib.Core.Logic.{_≢_}
 use mathlib.Core.List.{List}
-use Prim.Native.Nat.{ℕ, _<_}
+use Prim.Native.Nat.{ℕ, _≤_, _<_}
 use native.Mathlib.Decide.{ℕ-discrete}
 use native.Mathlib.Omega.{arith}
 use borrow.Author.Tests.{ne-eqb, eq-eqb, le-leb}
@@ -22,6 +22,7 @@ use Rattle.layer.specs.Layer.{Layer, parent, depth, upper, path}
 use Rattle.layer_laws.specs.Numbered.{shape}
 use Rattle.join_laws.specs.Joined.{Joined}
 use Rattle.join_laws.specs.JoinStep.{JoinStep}
+use Rattle.join_laws.specs.Lone.{Kept}
 use Rattle.join_laws.specs.Head.{Head}
 use Rattle.join_laws.specs.Renumbered.{rows}
 use Rattle.join_laws.specs.Trees.{OwnTrees, own-trees, stored}
@@ -46,7 +47,7 @@ use Rattle.join_exact.specs.Site.{Site, LeafOf}
 use Rattle.join_exact.specs.JoinExact.{between, first-is, next-is, joined}
 use Rattle.join_exact.specs.CopiedExact.{copies}
 use Rattle.join_exact.specs.HeadExact.{headTop, head, is-head, top-found, head-planned, head-renumberable}
-use Rattle.join_exact.specs.StoreExact.{head-seated, head-within, after, layerAfter, after-long, after-step, after-given, after-rest}
+use Rattle.join_exact.specs.StoreExact.{head-seated, head-within, after, layerAfter, after-long, after-step, after-given, after-rest, after-unused}
 
 or-true : (a b : Bool) → b ≡ true → (a || b) ≡ true
 or-true true b e = refl
@@ -203,3 +204,6 @@ module _ {c k : ℕ} {p : Written} {t : Layer} {z v : ℕ} (s : Site c p k t z v
 
   pub site-rest : SameRest (p .fields) (joinedParts .fields)
   site-rest = after-rest s w u deep leaf-of h head-is
+
+  pub site-unused : (before x : ℕ) → n ≤ x → x < c → Kept (layerIn p before) joinedLayer x
+  site-unused = after-unused s w u deep leaf-of h head-is

@@ -15,6 +15,8 @@ use Rattle.layer.specs.Layer.{Layer, parent, upper, size, setSize, start}
 use Rattle.layer.specs.Numbered.{Numbered}
 use Rattle.join_laws.specs.Joined.{Joined}
 use Rattle.join_laws.specs.JoinStep.{JoinStep, join-keeps}
+use Rattle.join_laws.specs.Lone.{Kept}
+use Rattle.join_laws.specs.KeptLaws.{kept-trans}
 use Rattle.join_laws.specs.Head.{Head}
 use Rattle.join_laws.specs.Renumbered.{rows, Renumbered}
 use Rattle.join_laws.specs.RenumberedLaws.{head-rows as rows-size}
@@ -27,7 +29,7 @@ use Rattle.renumber_exact.specs.Lent.{Long, layerIn, SameRest}
 use Rattle.renumber_exact.specs.Columns.{Holds, past}
 use Rattle.renumber_exact.specs.RenumberExact.{headAt, RenumberedExactly, renumbered-exactly}
 use Rattle.join_exact.specs.Site.{Site, LeafOf}
-use Rattle.join_exact.specs.JoinExact.{parts, between, attached-is, joined}
+use Rattle.join_exact.specs.JoinExact.{parts, between, attached-is, joined, joined-unused}
 use Rattle.join_exact.specs.HeadExact.{head-ready, head-renumberable, head-safe}
 
 end-moved : {a b x y : ℕ} → a ≡ x → b ≡ y → endOf a b ≤ limit → endOf x y ≤ limit
@@ -84,6 +86,10 @@ module _ {c k : ℕ} {p : Written} {t : Layer} {z v : ℕ} (s : Site c p k t z v
   -- what is not the layer's is as it was
   pub after-rest : SameRest (p .fields) (after .parts .fields)
   after-rest y k a b = exactly .rest y k a b ∙ attached-is s w u deep q .rest y k a b
+
+  -- and so is a row that is not in use
+  pub after-unused : (before x : ℕ) → n ≤ x → x < c → Kept (layerIn p before) layerAfter x
+  after-unused before x i l = kept-trans (joined-unused s w u deep q before x i l) (exactly .unused x i l)
 
   -- What the seat's tests ask
 

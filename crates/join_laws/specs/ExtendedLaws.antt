@@ -10,7 +10,7 @@ use Rattle.laws.specs.Test.{says-true, says-false, says-eqb}
 use Rattle.tree_laws.specs.Older.{Older}
 use Rattle.layer.specs.Layer.{Layer, parent}
 use Rattle.layer.specs.Numbered.{Numbered}
-use Rattle.join_laws.specs.Lone.{Lone}
+use Rattle.join_laws.specs.Lone.{Lone, Kept}
 use Rattle.join_laws.specs.LoneLaws.{parted-numbered}
 use Rattle.join_laws.specs.Extended.{Extended}
 
@@ -25,8 +25,11 @@ module _ {t d : Layer} (r : Numbered t) (k : Extended t d) where
   not-new : {x : ℕ} → x < t .count → eqb x (t .count) ≡ false
   not-new {x} l = says-false (says-eqb x (t .count)) (λ e. omega arith)
 
+  pub extended-kept : (x : ℕ) → x < t .count → Kept t d x
+  extended-kept x l = k .parted .kept x l (not-new l)
+
   pub extended-parent : (x : ℕ) → x < t .count → parent d x ≡ parent t x
-  extended-parent x l = k .parted .kept x l (not-new l) .sameParent
+  extended-parent x l = extended-kept x l .sameParent
 
   pub extended-lone : Lone d (t .count)
   extended-lone = k .parted .alone (t .count) (omega (arith, k .count)) (says-true (says-eqb (t .count) (t .count)) refl)

@@ -65,7 +65,7 @@ module _ {t m : Layer} {z v : ℕ} (r : Numbered t) (k : Planted t m z v) where
   of-v = r .one .children v (k .over .inside)
 
   -- the last child of v, if any, is its child
-  last-child : {w : ℕ} → w < t .count → w ≡ t .row v .last → parent t w ≡ v
+  pub last-child : {w : ℕ} → w < t .count → w ≡ t .row v .last → parent t w ≡ v
   last-child {w} i e = go (of-v .list) (of-v .over) (e ∙ of-v .last)
     where
       go : (xs : List ℕ) → ((w : ℕ) → Member xs w → Child t v w) → w ≡ lastOf xs → parent t w ≡ v

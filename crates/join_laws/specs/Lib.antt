@@ -25,6 +25,8 @@ pub mod FrameLaws
 pub mod Lag
 pub mod JoinPays
 pub mod Lone
+pub mod KeptLaws
+pub mod WholeTrees
 pub mod LoneLaws
 pub mod Extended
 pub mod ExtendedLaws

@@ -16,7 +16,10 @@ use Rattle.table.specs.Tree.{treeAt, rootAt}
 use Rattle.inspect.specs.Inspects.{inspects}
 use Rattle.growth.specs.Plan.{isLabel}
 use Rattle.link.specs.declared.check.Checked.the-variants.{Serve, Refuse}
-use Rattle.link.specs.Link.{linkWithin, linkChecked}
+use Rattle.link.specs.Link.{trees, linkWithin, linkChecked}
+
+pub trees-are : {a b l r : ℕ} → a ≡ l → b ≡ r → trees a b ≡ trees l r
+trees-are e d = rw (e, d)
 
 module _ (p : Parts) (scratch : ℕ) (s : State) (x v door : ℕ) where
   pub check-misfit : NoFit ≡ capacityOf p → Refuse Misfit ≡ linkChecked p scratch s x v door
@@ -73,6 +76,6 @@ module _ (p : Parts) (scratch : ℕ) (s : State) (x v door : ℕ) where
                       unfolding linkChecked linkWithin
                       check-inspect z = rw (← fit, eq-eqb scratch c a, lt-ltb x (s .count) b, lt-ltb v (s .count) d, e, g, ne-eqb (rootAt (p .fields) (p .ancestors) (s .count) x) none h, eq-eqb (rootAt (p .fields) (p .ancestors) (s .count) x) x i, ne-eqb (treeAt (p .ancestors) (s .count) v) none j, ne-eqb (treeAt (p .ancestors) (s .count) v) (treeAt (p .ancestors) (s .count) x) k, z)
 
-                      pub check-serve : inspects c (tableOf p (s .count)) ≡ true → Serve (treeAt (p .ancestors) (s .count) x) ≡ linkChecked p scratch s x v door
+                      pub check-serve : inspects c (tableOf p (s .count)) ≡ true → Serve (trees (treeAt (p .ancestors) (s .count) x) (treeAt (p .ancestors) (s .count) v)) ≡ linkChecked p scratch s x v door
                       unfolding linkChecked linkWithin
                       check-serve z = rw (← fit, eq-eqb scratch c a, lt-ltb x (s .count) b, lt-ltb v (s .count) d, e, g, ne-eqb (rootAt (p .fields) (p .ancestors) (s .count) x) none h, eq-eqb (rootAt (p .fields) (p .ancestors) (s .count) x) x i, ne-eqb (treeAt (p .ancestors) (s .count) v) none j, ne-eqb (treeAt (p .ancestors) (s .count) v) (treeAt (p .ancestors) (s .count) x) k, z)

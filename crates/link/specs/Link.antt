@@ -22,6 +22,7 @@ use Rattle.table.specs.Capacity.{onFit}
 use Rattle.growth.specs.Plan.{isLabel}
 use Rattle.link.specs.declared.Linked.{Linked}
 use Rattle.link.specs.declared.check.Checked.{Checked}
+use Rattle.link.specs.declared.check.Trees.{Trees}
 use Rattle.link.specs.declared.check.Checked.the-variants.{Serve, Refuse}
 use Rattle.link.specs.Sort.{Sorted, cellAt, sortedRows}
 use Rattle.link.specs.Detach.{detached}
@@ -40,6 +41,10 @@ result p o = record { outcome = o; parts = p }
 abbrev pub provided : Bool → Refusal → Checked → Checked
 provided b r k = pick b k (Refuse r)
 
+-- the first rows of the linked tree and of the receiving one
+abbrev pub trees : ℕ → ℕ → Trees
+trees l r = record { linked = l; receiving = r }
+
 -- in parts that fit the capacity c; `door` is the label that the linked root takes
 unfoldable pub linkWithin : Parts → ℕ → ℕ → State → ℕ → ℕ → ℕ → Checked
 linkWithin p c scratch s x v door =
@@ -53,7 +58,7 @@ linkWithin p c scratch s x v door =
     (provided (not (eqb (treeAt (p .ancestors) (s .count) v) none)) Corrupt
     (provided (not (eqb (treeAt (p .ancestors) (s .count) v) (treeAt (p .ancestors) (s .count) x))) SameTree
     (provided (inspects c (tableOf p (s .count))) Corrupt
-    (Serve (treeAt (p .ancestors) (s .count) x)))))))))))
+    (Serve (trees (treeAt (p .ancestors) (s .count) x) (treeAt (p .ancestors) (s .count) v))))))))))))
 
 -- with a scratch of this length
 unfoldable pub linkChecked : Parts → ℕ → State → ℕ → ℕ → ℕ → Checked
@@ -65,12 +70,12 @@ joinedTree p c n tree x v door =
     let s : Sorted = sortedRows c (p .levels) (p .ancestors) n tree (levelAt (p .levels) x) in
     joinWalk (2 * n) (cellAt (s .heads)) (cellAt (s .links)) n x door (walking (detached p n tree x v) (joining (cellAt (s .heads) 0) 0 0))
 
-unfoldable pub servedBy : Stored → Result
-servedBy o = result (o .parts) (linked (o .given))
+unfoldable pub servedBy : ℕ → Stored → Result
+servedBy head o = result (o .parts) (linked (o .given) head)
 
 -- by what was decided: a refusal changes nothing
 unfoldable pub linkedBy : Parts → ℕ → ℕ → ℕ → ℕ → ℕ → Checked → Result
-linkedBy p c n x v door (Serve tree) = servedBy (joinedTree p c n tree x v door)
+linkedBy p c n x v door (Serve t) = servedBy (t .receiving) (joinedTree p c n (t .linked) x v door)
 linkedBy p c n x v door (Refuse r) = result p (refused r)
 
 -- the tree of x under v by a door; of the scratch only its length counts

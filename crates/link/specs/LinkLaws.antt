@@ -24,6 +24,7 @@ use Rattle.table.specs.Capacity.{onFit}
 use Rattle.growth.specs.Plan.{isLabel}
 use Rattle.link.specs.declared.Linked.the-variants.{Under, Refused}
 use Rattle.link.specs.declared.check.Checked.{Checked}
+use Rattle.link.specs.declared.check.Trees.{Trees}
 use Rattle.link.specs.declared.check.Checked.the-variants.{Serve, Refuse}
 use Rattle.link.specs.Detach.{detachedFrom, detached}
 use Rattle.link.specs.Link.{provided, linkWithin, linkChecked, joinedTree, servedBy, linkedBy, linkBy, LinkCall}
@@ -41,7 +42,7 @@ tree-joined p c n tree x v door heads links f m a o e h i = rw (← e, ← h) i
 -- What serving tells
 
 -- a call that is served passed the tests of the scratch and the count
-served-tests : (a b d e g : Bool) (k : Checked) {tree : ℕ} → Serve tree ≡ provided a Misfit (provided b UnknownNode (provided d UnknownNode (provided e BadLabel (provided g Corrupt k))))
+served-tests : (a b d e g : Bool) (k : Checked) {t : Trees} → Serve t ≡ provided a Misfit (provided b UnknownNode (provided d UnknownNode (provided e BadLabel (provided g Corrupt k))))
     → (a ≡ true) × (g ≡ true)
 served-tests true true true true true k q = (refl, refl)
 served-tests false b d e g k q = let z : _≡_ {A = ℕ} 0 1 = cc in absurd (omega arith)
@@ -56,7 +57,7 @@ pub record Ready (p : Parts) (scratch n : ℕ) : Type 0 where
   pub most : scratch ≤ nodeLimit
 
 module _ (p : Parts) (scratch : ℕ) (s : State) (x v door : ℕ) where
-  ready-within : {c tree : ℕ} → capacityOf p ≡ Capacity c → Serve tree ≡ linkWithin p c scratch s x v door → Ready p scratch (s .count)
+  ready-within : {c : ℕ} {t : Trees} → capacityOf p ≡ Capacity c → Serve t ≡ linkWithin p c scratch s x v door → Ready p scratch (s .count)
   unfolding linkWithin
   ready-within {c} f e =
       let q = served-tests (eqb scratch c) (ltb x (s .count)) (ltb v (s .count)) (isLabel door) (isStanding c s) _ e in
@@ -68,11 +69,11 @@ module _ (p : Parts) (scratch : ℕ) (s : State) (x v door : ℕ) where
         most = omega (arith, fit .most);
       }
 
-  pub serve-ready : {r : Checked} {tree : ℕ} → r ≡ linkChecked p scratch s x v door → r ≡ Serve tree → Ready p scratch (s .count)
+  pub serve-ready : {r : Checked} {t : Trees} → r ≡ linkChecked p scratch s x v door → r ≡ Serve t → Ready p scratch (s .count)
   unfolding linkChecked
-  serve-ready {tree = tree} e h = go (capacityOf p) refl (sym h ∙ e)
+  serve-ready {t = t} e h = go (capacityOf p) refl (sym h ∙ e)
     where
-      go : (f : Fit) → capacityOf p ≡ f → Serve tree ≡ onFit f (λ c. linkWithin p c scratch s x v door) (Refuse Misfit) → Ready p scratch (s .count)
+      go : (f : Fit) → capacityOf p ≡ f → Serve t ≡ onFit f (λ c. linkWithin p c scratch s x v door) (Refuse Misfit) → Ready p scratch (s .count)
       go (Capacity c) f k = ready-within f k
       go NoFit f k = let z : _≡_ {A = ℕ} 0 1 = cc in absurd (omega arith)
 
@@ -83,8 +84,8 @@ module _ (p : Parts) (scratch : List ℕ) (s : State) (x v door : ℕ) {k : Chec
   unfolding linkBy linkedBy
   call-refused h = record { outcome = rw (← e, h) refl; long = refl; unchanged = λ n z. refl }
 
-  pub call-served : {tree rows : ℕ} {p′ : Parts} {scratch′ : List ℕ} → k ≡ Serve tree → stored p′ rows ≡ joinedTree p (length scratch) (s .count) tree x v door
-      → length scratch′ ≡ length scratch → LinkCall p p′ scratch scratch′ s x v door (Under (record { rows = rows }))
+  pub call-served : {t : Trees} {rows : ℕ} {p′ : Parts} {scratch′ : List ℕ} → k ≡ Serve t → stored p′ rows ≡ joinedTree p (length scratch) (s .count) (t .linked) x v door
+      → length scratch′ ≡ length scratch → LinkCall p p′ scratch scratch′ s x v door (Under (record { rows = rows; head = t .receiving }))
   unfolding linkBy linkedBy servedBy
   call-served h i l = record {
     outcome = rw (← e, h, ← i) refl;

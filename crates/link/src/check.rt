@@ -14,9 +14,15 @@ ghost use lib.ListN.{length};
 ghost use Rattle.table.specs.Parts.{partsOf};
 ghost use Rattle.link.specs.Link.{linkChecked};
 
-// A link that is served, with the first row of the tree of x; or why it is refused.
+// The first rows of the tree that is linked and of the one that receives it.
+pub struct Trees {
+    pub linked: u16,
+    pub receiving: u16,
+}
+
+// A link that is served, or why it is refused.
 pub enum Checked {
-    Serve(u16),
+    Serve(Trees),
     Refuse(Refusal),
 }
 
@@ -60,15 +66,18 @@ pub fn check_link(
     if root != x {
         return Checked::Refuse(Refusal::NotRoot);
     }
-    let other = tree_of(ancestors, state.count, v);
-    if other == NONE {
+    let receiving = tree_of(ancestors, state.count, v);
+    if receiving == NONE {
         return Checked::Refuse(Refusal::Corrupt);
     }
-    if other == tree {
+    if receiving == tree {
         return Checked::Refuse(Refusal::SameTree);
     }
     if !is_ours(fields, numbers, levels, ancestors, cap, state) {
         return Checked::Refuse(Refusal::Corrupt);
     }
-    Checked::Serve(tree)
+    Checked::Serve(Trees {
+        linked: tree,
+        receiving: receiving,
+    })
 }

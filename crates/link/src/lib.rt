@@ -21,9 +21,10 @@ mod detach;
 mod joins;
 mod sort;
 
-// A link that was served: how many rows its joins renumbered, added up.
+// A link that was served: how many rows its joins renumbered, added up, and its head, the first row of the tree that received the linked one.
 pub struct Joined {
     pub rows: u32,
+    pub head: u16,
 }
 
 pub enum Linked {
@@ -115,7 +116,7 @@ pub fn link(
     );
     match checked {
         Checked::Refuse(why) => Linked::Refused(why),
-        Checked::Serve(tree) => {
+        Checked::Serve(trees) => {
             let rows = serve(
                 fields,
                 numbers,
@@ -123,12 +124,16 @@ pub fn link(
                 ancestors,
                 scratch,
                 state.count,
-                tree,
+                trees.linked,
                 x,
                 v,
                 door,
             );
-            Linked::Under(Joined { rows: rows })
+            let joined = Joined {
+                rows: rows,
+                head: trees.receiving,
+            };
+            Linked::Under(joined)
         }
     }
 }

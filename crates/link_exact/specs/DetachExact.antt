@@ -7,6 +7,7 @@ use native.Mathlib.Decide.{ℕ-discrete}
 use native.Mathlib.Omega.{arith}
 use Rattle.laws.specs.Test.{says-true, says-false, says-eqb, says-get, says-not-get}
 use Rattle.tree_laws.specs.Ancestor.{none, here, there, Forest}
+use Rattle.tree_laws.specs.AncestorLaws.{anc-in}
 use Rattle.tree_laws.specs.Reroot.{PlainParent, root, turned, kept, plainParent}
 use Rattle.tree_laws.specs.RerootLaws.{plain-parent}
 use Rattle.tree_laws.specs.SizeDepth.{depth-below}
@@ -30,6 +31,7 @@ use Rattle.renumber_exact.specs.Columns.{Holds, holds-set, set-same, set-other}
 use Rattle.renumber_exact.specs.Lent.{Long, layerIn, SameRest}
 use Rattle.join_exact.specs.LoneExact.{lone-long, stands-alone, stays, lone-rest}
 use Rattle.join_laws.specs.Lone.{Lone, Kept}
+use Rattle.join_laws.specs.KeptLaws.{kept-same, kept-trans}
 use Rattle.layer_laws.specs.Numbered.{shape, storedTree}
 use Rattle.layer_laws.specs.TreeEntry.{entry-first}
 use Rattle.link_laws.specs.Link.{target, Linkable}
@@ -45,11 +47,12 @@ record Keeps (a : List ℕ) (tree c m w : ℕ) (f g : List ℕ) : Type 0 where
   rest : (y j : ℕ) → j < fieldStride → j ≢ rootPlace → fieldAt g y j ≡ fieldAt f y j
   on : (y : ℕ) → w ≤ y → y < w + m → entryAt a y treePlace ≡ tree → fieldAt g y rootPlace ≡ fieldAt f y parentPlace
   low : (y : ℕ) → y < w → fieldAt g y rootPlace ≡ fieldAt f y rootPlace
+  high : (y : ℕ) → w + m ≤ y → fieldAt g y rootPlace ≡ fieldAt f y rootPlace
   off : (y : ℕ) → y < c → entryAt a y treePlace ≢ tree → fieldAt g y rootPlace ≡ fieldAt f y rootPlace
 
 keeps : (a : List ℕ) (tree c m w : ℕ) (f : List ℕ) → w + m ≤ c → Holds fieldStride c f → Keeps a tree c m w f (keptParents a tree m w f)
 unfolding keptParents keptParent
-keeps a tree c zero w f l h = record { holds = h; rest = λ y j i d. refl; on = λ y i j e. absurd (omega arith); low = λ y i. refl; off = λ y i d. refl }
+keeps a tree c zero w f l h = record { holds = h; rest = λ y j i d. refl; on = λ y i j e. absurd (omega arith); low = λ y i. refl; high = λ y i. refl; off = λ y i d. refl }
 keeps a tree c (suc m) w f l h = elim (ℕ-discrete (entryAt a w treePlace) tree) [
   | yes e ↦
       let s : Holds fieldStride c (withField f w rootPlace (fieldAt f w parentPlace)) = holds-set h _ _ in
@@ -66,6 +69,7 @@ keeps a tree c (suc m) w f l h = elim (ℕ-discrete (entryAt a w treePlace) tree
           | no d ↦ k .on y (omega arith) (omega arith) o ∙ rest y parentPlace (omega arith) (λ z. omega arith)
         ];
         low = λ y i. k .low y (omega arith) ∙ at y ∙ put-other (λ x. fieldAt f x rootPlace) w (fieldAt f w parentPlace) y (λ z. omega arith);
+        high = λ y i. k .high y (omega arith) ∙ at y ∙ put-other (λ x. fieldAt f x rootPlace) w (fieldAt f w parentPlace) y (λ z. omega arith);
         off = λ y i d. k .off y i d ∙ at y ∙ put-other (λ x. fieldAt f x rootPlace) w (fieldAt f w parentPlace) y (λ z. d (rw z e));
       }
   | no d ↦
@@ -75,6 +79,7 @@ keeps a tree c (suc m) w f l h = elim (ℕ-discrete (entryAt a w treePlace) tree
         rest = k .rest;
         on = λ y i j o. elim (ℕ-discrete y w) [ yes z ↦ absurd (d (rw z at o)) | no b ↦ k .on y (omega arith) (omega arith) o ];
         low = λ y i. k .low y (omega arith);
+        high = λ y i. k .high y (omega arith);
         off = k .off;
       }
 ]
@@ -130,44 +135,13 @@ lone-kept {t} {d} {y} a k = record {
   filled = λ i b. k .sameEntry i b ∙ a .filled i b ∙ ap (λ (s : ℕ). entryFrom y (reachOf s) i none) (sym (k .sameSetSize));
 }
 
-kept-trans : {t d e : Layer} {y : ℕ} → Kept t d y → Kept d e y → Kept t e y
-kept-trans a b = record {
-  sameParent = b .sameParent ∙ a .sameParent;
-  sameDepth = b .sameDepth ∙ a .sameDepth;
-  sameFirst = b .sameFirst ∙ a .sameFirst;
-  sameLast = b .sameLast ∙ a .sameLast;
-  sameNext = b .sameNext ∙ a .sameNext;
-  sameUpper = b .sameUpper ∙ a .sameUpper;
-  samePath = b .samePath ∙ a .samePath;
-  sameSize = b .sameSize ∙ a .sameSize;
-  sameSetSize = b .sameSetSize ∙ a .sameSetSize;
-  sameStart = b .sameStart ∙ a .sameStart;
-  sameNextFree = b .sameNextFree ∙ a .sameNextFree;
-  sameEntry = λ i l. b .sameEntry i l ∙ a .sameEntry i l;
-}
-
-kept-same : {t : Layer} {y : ℕ} → Kept t t y
-kept-same = record {
-  sameParent = refl;
-  sameDepth = refl;
-  sameFirst = refl;
-  sameLast = refl;
-  sameNext = refl;
-  sameUpper = refl;
-  samePath = refl;
-  sameSize = refl;
-  sameSetSize = refl;
-  sameStart = refl;
-  sameNextFree = refl;
-  sameEntry = λ i l. refl;
-}
-
 -- the m rows from w on have been looked at: those of the tree stand alone, the others are as they were; what is not the layer's stays
 record PartedTo (c n tree m w : ℕ) (p q : Written) : Type 0 where
   long : Long c q
   rest : SameRest (p .fields) (q .fields)
   on : (y : ℕ) → w ≤ y → y < w + m → entryAt (p .ancestors) y treePlace ≡ tree → Lone (layerIn q n) y
   low : (y : ℕ) → y < w → Kept (layerIn p n) (layerIn q n) y
+  high : (y : ℕ) → w + m ≤ y → Kept (layerIn p n) (layerIn q n) y
   off : (y : ℕ) → entryAt (p .ancestors) y treePlace ≢ tree → Kept (layerIn p n) (layerIn q n) y
 
 -- from what the first row became
@@ -183,6 +157,7 @@ parts-alone c n tree zero w p l f = record {
   rest = λ y k a b. refl;
   on = λ y i j e. absurd (omega arith);
   low = λ y i. kept-same;
+  high = λ y i. kept-same;
   off = λ y d. kept-same;
 }
 parts-alone c n tree (suc m) w p l f = elim (ℕ-discrete (entryAt (p .ancestors) w treePlace) tree) [
@@ -198,6 +173,7 @@ parts-alone c n tree (suc m) w p l f = elim (ℕ-discrete (entryAt (p .ancestors
           | no d ↦ k .on y (omega arith) (omega arith) (same y d .sameEntry treePlace (omega arith) ∙ o)
         ];
         low = λ y a. kept-trans (same y (λ z. omega arith)) (k .low y (omega arith));
+        high = λ y a. kept-trans (same y (λ z. omega arith)) (k .high y (omega arith));
         off = λ y d. let o : y ≢ w = λ z. d (rw z e) in kept-trans (same y o) (k .off y (λ z. d (sym (same y o .sameEntry treePlace (omega arith)) ∙ z)));
       }
   | no d ↦
@@ -207,6 +183,7 @@ parts-alone c n tree (suc m) w p l f = elim (ℕ-discrete (entryAt (p .ancestors
         rest = k .rest;
         on = λ y a b o. elim (ℕ-discrete y w) [ yes z ↦ absurd (d (rw z at o)) | no j ↦ k .on y (omega arith) (omega arith) o ];
         low = λ y a. k .low y (omega arith);
+        high = λ y a. k .high y (omega arith);
         off = k .off;
       }
 ]
@@ -318,4 +295,14 @@ module _ {c : ℕ} {p : Parts} {n x v door : ℕ} (r : Rules c (tableOf p n)) (f
         ∙ k₁ .off w (omega (arith, room)) (λ z. d (sym (entry-is w l) ∙ z));
     labels = λ w l. k₃ .rest w labelPlace (omega arith) (omega arith) ∙ same w labelPlace (omega arith) (λ e. omega arith);
     levels = λ w l. refl;
+    unused = λ w i l. record {
+      row = kept-trans (kept₂ w) (k₃ .high w (omega arith));
+      marks = record {
+        sameLabel = k₃ .rest w labelPlace (omega arith) (omega arith) ∙ same w labelPlace (omega arith) (λ e. omega arith);
+        sameLevel = refl;
+      };
+      sameRoot = k₃ .rest w rootPlace (omega arith) (omega arith) ∙ k₂ .root w
+          ∙ turned-off was n (λ y. fieldAt f₁ y rootPlace) x v w (h .inUse) deep (λ q. omega (arith, anc-in was (h .inUse) q))
+          ∙ k₁ .high w (omega arith);
+    };
   }

@@ -28,6 +28,8 @@ use Rattle.table_laws.specs.LevelBounds.{abs-suc}
 use Rattle.join_laws.specs.Joined.{Planted}
 use Rattle.join_laws.specs.JoinStep.{JoinStep, step-planted, join-keeps}
 use Rattle.join_laws.specs.Renumbered.{rows}
+use Rattle.growth_laws.specs.GrowthFrame.{Untouched}
+use Rattle.growth_laws.specs.GrowthFrameLaws.{untouched-same, untouched-trans}
 use Rattle.link_laws.specs.Joinings.{Marked, Joinings, done, next}
 use Rattle.link_laws.specs.JoiningsLaws.{Before}
 use Rattle.growth.specs.declared.level.Level.the-variants.{At}
@@ -36,7 +38,7 @@ use Rattle.growth.specs.Store.{stored}
 use Rattle.renumber_laws.specs.Column.{put-other}
 use Rattle.join_exact.specs.Site.{Site}
 use Rattle.join_exact.specs.SeatExact.{h}
-use Rattle.growth_exact.specs.PlanExact.{layerParts, long-parts, row-planned, joinedParts, joinedTable, plan-stored, plan-fits, plan-step, mark-label, mark-level, kept-label, kept-level, plan-roots}
+use Rattle.growth_exact.specs.PlanExact.{layerParts, long-parts, row-planned, joinedParts, joinedTable, plan-stored, plan-fits, plan-step, mark-label, mark-level, kept-label, kept-level, plan-roots, plan-unused}
 use Rattle.growth_exact.specs.GrowthSite.{good-row}
 use Rattle.link.specs.JoinRow.{plannedStored, joinedUnder, joinRow, joinAll}
 
@@ -121,6 +123,9 @@ module _ {c : ℕ} {p : Parts} {n : ℕ} {target own : ℕ → ℕ} {z : ℕ} {z
   root-rest f y l e = plan-roots (q .fit) site (t .level v +ℤ pos 1) f none (inl refl) y (omega (arith, q .room)) e
       ∙ put-other (λ x. fieldAt (p .fields) x rootPlace) none z y (λ e. omega (arith, q .room, q .fit .most))
 
+  pub step-unused : (f y : ℕ) → n ≤ y → y < c → Untouched t (d f) y
+  step-unused f = plan-unused (q .fit) site (t .level v +ℤ pos 1) f none (inl refl) n
+
   abbrev pub partsAfter : ℕ → Parts
   partsAfter f = joinedParts (q .fit) site (t .level v +ℤ pos 1) f none
 
@@ -170,11 +175,12 @@ pub record Joined (c : ℕ) (p p′ : Parts) (n : ℕ) (target labelled : ℕ �
   pub fits : Fits c p′
   pub joins : Joinings target labelled (tableOf p n) (tableOf p′ n) zs k
   pub roots : (y : ℕ) → y < n → ¬ Member zs y → fieldAt (p′ .fields) y rootPlace ≡ fieldAt (p .fields) y rootPlace
+  pub unused : (y : ℕ) → n ≤ y → y < c → Untouched (tableOf p n) (tableOf p′ n) y
 
 pub joins-exact : {c n : ℕ} {target own : ℕ → ℕ} (x door : ℕ) (zs : List ℕ) {p : Parts} → Waits c p n target own zs → Once zs → Before target zs
     → Joined c p (joinAll p n x door zs .parts) n target (λ w. pick (eqb w x) door (own w)) zs (joinAll p n x door zs .given)
 unfolding joinAll
-joins-exact x door [] q once before = record { fits = q .fit; joins = done; roots = λ y l i. refl }
+joins-exact x door [] q once before = record { fits = q .fit; joins = done; roots = λ y l i. refl; unused = λ y i l. untouched-same }
 joins-exact {c} {n} {target} {own} x door (z ∷ zs) {p} q once before =
     let f : ℕ = pick (eqb z x) door (own z) in
     let rest = joins-exact x door zs (waits-on q once before f) (once .1) (before .1) in
@@ -182,4 +188,5 @@ joins-exact {c} {n} {target} {own} x door (z ∷ zs) {p} q once before =
       fits = rest .fits;
       joins = next (step q once before f) (marked q once before f) (rest .joins);
       roots = λ y l i. rest .roots y l (λ m. i (inr m)) ∙ root-rest q once before f y l (λ e. i (inl e));
+      unused = λ y i l. untouched-trans (step-unused q once before f y i l) (rest .unused y i l);
     }

@@ -3,7 +3,7 @@ use mathlib.Core.Path.{_≡_, refl, _∙_}
 use mathlib.Core.Bool.{true}
 use mathlib.Core.Logic.{_≢_}
 use mathlib.Core.List.{List}
-use Prim.Native.Nat.{ℕ, _<_}
+use Prim.Native.Nat.{ℕ, _≤_, _<_}
 use native.Mathlib.Decide.{ℕ-discrete}
 use Rattle.laws.specs.Test.{says-true, says-false, says-eqb}
 use Rattle.tree_laws.specs.Ancestor.{none}
@@ -22,7 +22,11 @@ use Rattle.table_laws.specs.LevelLaws.{plain-tree, parent-in}
 use Rattle.table_laws.specs.LevelBounds.{level-depth}
 use Rattle.join_laws.specs.Lone.{Lone, Parted}
 use Rattle.join_laws.specs.LoneLaws.{parted-numbered}
+use Rattle.growth_laws.specs.GrowthFrame.{Untouched}
+use Rattle.growth_laws.specs.GrowthFrameLaws.{untouched-trans}
 use Rattle.link_laws.specs.Link.{target, labelled, Linkable, Linked}
+use Rattle.link_laws.specs.LinkFrame.{LinkFrame}
+use Rattle.link_laws.specs.LinkFrameLaws.{link-elsewhere}
 use Rattle.link_laws.specs.Order.{isOfTree, Order}
 use Rattle.link_laws.specs.OrderLaws.{linkOrder, link-ordered, order-once, order-before, some, in-x}
 use Rattle.link.specs.JoinRow.{joinAll}
@@ -36,6 +40,7 @@ pub record Detached (c : ℕ) (p p₁ : Parts) (n x v : ℕ) : Type 0 where
   pub roots : (w : ℕ) → w < n → first (tableOf p n .layer) w ≢ first (tableOf p n .layer) x → fieldAt (p₁ .fields) w rootPlace ≡ fieldAt (p .fields) w rootPlace
   pub labels : (w : ℕ) → w < n → tableOf p₁ n .label w ≡ tableOf p n .label w
   pub levels : (w : ℕ) → w < n → tableOf p₁ n .level w ≡ tableOf p n .level w
+  pub unused : (w : ℕ) → n ≤ w → w < c → Untouched (tableOf p n) (tableOf p₁ n) w
 
 -- a row that stands alone is nobody's parent
 no-member : {next : ℕ → ℕ} {c : ℕ} {xs : List ℕ} (w : ℕ) → Chain next c xs → c ≡ none → Member xs w → ⊥
@@ -108,4 +113,11 @@ module _ {c : ℕ} {p p₁ : Parts} {n x v door : ℕ} (r : Rules c (tableOf p n
     ordered = order;
     joins = joined .joins;
     roots = λ f l d. joined .roots f l (λ m. d (order .moved f m)) ∙ k .roots f l d;
+  }
+
+  -- outside the two trees nothing changes
+  pub framed : LinkFrame c t (tableOf (joinAll p₁ n x door (linkOrder t x) .parts) n) x v
+  framed = record {
+    elsewhere = link-elsewhere r (fit .most) link-exact;
+    unused = λ w i l. untouched-trans (k .unused w i l) (joined .unused w i l);
   }

@@ -31,23 +31,27 @@ use Rattle.inspect.specs.Inspects.{inspects}
 use Rattle.join_laws.specs.Lag.{lag, worth, perJoin}
 use Rattle.growth.specs.Plan.{isLabel}
 use Rattle.link_laws.specs.Link.{Linkable, Linked, PlainLink}
+use Rattle.link_laws.specs.LinkFrame.{LinkFrame}
 use Rattle.link_laws.specs.LinkLaws.{link-keeps-rules, link-plain, link-pays}
 use Rattle.link_laws.specs.Order.{treeRows}
 use Rattle.link.specs.declared.check.Checked.{Checked}
+use Rattle.link.specs.declared.check.Trees.{Trees}
 use Rattle.link.specs.declared.check.Checked.the-variants.{Serve, Refuse}
-use Rattle.link.specs.CheckLaws.{check-scratch, check-x, check-v, check-label, check-not-root, check-same, check-inspect, check-serve}
+use Rattle.link.specs.CheckLaws.{check-scratch, check-x, check-v, check-label, check-not-root, check-same, check-inspect, trees-are, check-serve}
 use Rattle.link.specs.Outcome.{refusal, refused, linked as treeLinked}
-use Rattle.link.specs.Link.{Result, result, provided, linkWithin, linkChecked, joinedTree, servedBy, linkedBy, linkBy}
-use Rattle.link_exact.specs.TreeJoined.{after, renumbered, tree-linked, tree-fits, tree-joined}
+use Rattle.link.specs.Link.{Result, result, trees, provided, linkWithin, linkChecked, joinedTree, servedBy, linkedBy, linkBy}
+use Rattle.link_exact.specs.TreeJoined.{after, renumbered, tree-linked, tree-fits, tree-frame, tree-joined}
 
 -- a link that was served, told by its outcome
 pub record LinkedExactly (c : ℕ) (p : Parts) (s : State) (x v door : ℕ) (o : Result) : Type 0 where
   pub rows : ℕ
-  pub answered : o .outcome ≡ treeLinked rows
+  -- the rows that the joinings renumbered, and the first row of the receiving stored tree
+  pub answered : o .outcome ≡ treeLinked rows (first (tableOf p (s .count) .layer) v)
   pub fits : Fits c (o .parts)
   pub linked : Linked (tableOf p (s .count)) (tableOf (o .parts) (s .count)) x v door rows
   pub rules : Rules c (tableOf (o .parts) (s .count))
   pub plain : PlainLink (tableOf p (s .count)) (tableOf (o .parts) (s .count)) x v door
+  pub frame : LinkFrame c (tableOf p (s .count)) (tableOf (o .parts) (s .count)) x v
   pub pays : worth * lag (tableOf (o .parts) (s .count) .layer) + rows ≤ worth * lag (tableOf p (s .count) .layer) + perJoin * treeRows (tableOf p (s .count) .layer) x
 
 -- by what was decided
@@ -56,8 +60,8 @@ by-refusal : (p : Parts) (scratch : ℕ) (s : State) (x v door : ℕ) {why : Ref
 unfolding linkBy linkedBy
 by-refusal p scratch s x v door e = rw (← e) refl
 
-by-serving : (p : Parts) (scratch : ℕ) (s : State) (x v door : ℕ) {tree : ℕ} → Serve tree ≡ linkChecked p scratch s x v door
-    → linkBy p scratch s x v door ≡ servedBy (joinedTree p scratch (s .count) tree x v door)
+by-serving : (p : Parts) (scratch : ℕ) (s : State) (x v door : ℕ) {t : Trees} → Serve t ≡ linkChecked p scratch s x v door
+    → linkBy p scratch s x v door ≡ servedBy (t .receiving) (joinedTree p scratch (s .count) (t .linked) x v door)
 unfolding linkBy linkedBy
 by-serving p scratch s x v door e = rw (← e) refl
 
@@ -122,17 +126,20 @@ module _ {c : ℕ} (p : Parts) (scratch : ℕ) (s : State) (x v door : ℕ) (fit
     label-is : isLabel door ≡ true
     label-is = rw (le-leb 1 door (h .least)) (le-leb door _ (h .most))
 
-    checked : Serve (first (t .layer) x) ≡ linkChecked p scratch s x v door
+    checked : Serve (trees (first (t .layer) x) (first (t .layer) v)) ≡ linkChecked p scratch s x v door
     checked =
         let k = check-serve p scratch s x v door c (sym (fits-told fit)) same (h .inUse) (h .over) label-is (standing p s fit r) (root-some p s fit r (h .inUse)) (root-read p s fit r (h .inUse) ∙ h .isRoot)
         (tree-some p s fit r (h .over)) (λ e. h .other (same-tree p (s .count) r (fit .most) v x (h .over) (h .inUse) e))
         (says-true (inspect-exact c t (fit .most)) r) in
-        ap Serve (sym (tree-is p (s .count) r (fit .most) (in-tree (numbered r (fit .most)) x (h .inUse)))) ∙ k
+        ap Serve (trees-are (read (h .inUse)) (read (h .over))) ∙ k
+      where
+        read : {w : ℕ} → w < s .count → first (t .layer) w ≡ treeAt (p .ancestors) (s .count) w
+        read {w} l = sym (tree-is p (s .count) r (fit .most) (in-tree (numbered r (fit .most)) w l))
 
     abbrev d : Parts
     d = after r fit h
 
-    served : linkBy p scratch s x v door ≡ result d (treeLinked (renumbered r fit h))
+    served : linkBy p scratch s x v door ≡ result d (treeLinked (renumbered r fit h) (first (t .layer) v))
     unfolding servedBy
     served = by-serving p scratch s x v door checked ∙ rw (same, tree-joined r fit h) refl
 
@@ -144,6 +151,7 @@ module _ {c : ℕ} (p : Parts) (scratch : ℕ) (s : State) (x v door : ℕ) (fit
       linked = tree-linked r fit h;
       rules = link-keeps-rules r (fit .most) (tree-linked r fit h);
       plain = link-plain r (fit .most) (tree-linked r fit h);
+      frame = tree-frame r fit h;
       pays = link-pays r (fit .most) (tree-linked r fit h);
     }
 
@@ -185,18 +193,18 @@ module _ (p : Parts) (scratch n x v door : ℕ) where
   no-four true true true true true true true true true o q = refl
 
   -- inspection says yes: 4 is never given
-  yes-none : (a b d e h i j k : Bool) (tree : ℕ) → (b ≡ true → h ≡ true) → (d ≡ true → j ≡ true)
-      → told (ladder a b d e true h i j k true (Serve tree)) .outcome ≡ refusal 4 → ⊥
+  yes-none : (a b d e h i j k : Bool) (t : Trees) → (b ≡ true → h ≡ true) → (d ≡ true → j ≡ true)
+      → told (ladder a b d e true h i j k true (Serve t)) .outcome ≡ refusal 4 → ⊥
   unfolding ladder told linkedBy servedBy
-  yes-none false b d e h i j k tree y z q = omega (arith, same-number {m = 3} q)
-  yes-none true false d e h i j k tree y z q = omega (arith, same-number {m = 1} q)
-  yes-none true true false e h i j k tree y z q = omega (arith, same-number {m = 1} q)
-  yes-none true true true false h i j k tree y z q = omega (arith, same-number {m = 5} q)
-  yes-none true true true true false i j k tree y z q = let o : _≡_ {A = ℕ} 0 1 = cc (y refl) in omega arith
-  yes-none true true true true true false j k tree y z q = omega (arith, same-number {m = 10} q)
-  yes-none true true true true true true false k tree y z q = let o : _≡_ {A = ℕ} 0 1 = cc (z refl) in omega arith
-  yes-none true true true true true true true false tree y z q = omega (arith, same-number {m = 11} q)
-  yes-none true true true true true true true true tree y z q = let o : _≡_ {A = ℕ} 0 1 = cc in omega arith
+  yes-none false b d e h i j k t y z q = omega (arith, same-number {m = 3} q)
+  yes-none true false d e h i j k t y z q = omega (arith, same-number {m = 1} q)
+  yes-none true true false e h i j k t y z q = omega (arith, same-number {m = 1} q)
+  yes-none true true true false h i j k t y z q = omega (arith, same-number {m = 5} q)
+  yes-none true true true true false i j k t y z q = let o : _≡_ {A = ℕ} 0 1 = cc (y refl) in omega arith
+  yes-none true true true true true false j k t y z q = omega (arith, same-number {m = 10} q)
+  yes-none true true true true true true false k t y z q = let o : _≡_ {A = ℕ} 0 1 = cc (z refl) in omega arith
+  yes-none true true true true true true true false t y z q = omega (arith, same-number {m = 11} q)
+  yes-none true true true true true true true true t y z q = let o : _≡_ {A = ℕ} 0 1 = cc in omega arith
 
 module _ {c : ℕ} (p : Parts) (scratch : ℕ) (s : State) (x v door : ℕ) (fit : Fits c p) where
   -- the decisions of a call, with this answer of inspection
@@ -204,7 +212,7 @@ module _ {c : ℕ} (p : Parts) (scratch : ℕ) (s : State) (x v door : ℕ) (fit
   decided l = ladder (eqb scratch c) (ltb x (s .count)) (ltb v (s .count)) (isLabel door) (isStanding c s)
       (not (eqb (rootAt (p .fields) (p .ancestors) (s .count) x) none)) (eqb (rootAt (p .fields) (p .ancestors) (s .count) x) x)
       (not (eqb (treeAt (p .ancestors) (s .count) v) none)) (not (eqb (treeAt (p .ancestors) (s .count) v) (treeAt (p .ancestors) (s .count) x))) l
-      (Serve (treeAt (p .ancestors) (s .count) x))
+      (Serve (trees (treeAt (p .ancestors) (s .count) x) (treeAt (p .ancestors) (s .count) v)))
 
   link-told : {l : Bool} → inspects c (tableOf p (s .count)) ≡ l → linkBy p scratch s x v door ≡ told p scratch (s .count) x v door (decided l)
   unfolding linkBy linkChecked linkWithin ladder told

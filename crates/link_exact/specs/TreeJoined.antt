@@ -13,6 +13,7 @@ use Rattle.table.specs.Rules.{Rules}
 use Rattle.growth.specs.Store.{stored}
 use Rattle.link_laws.specs.Levels.{levelsFrom}
 use Rattle.link_laws.specs.Link.{Linkable, Linked}
+use Rattle.link_laws.specs.LinkFrame.{LinkFrame}
 use Rattle.link_laws.specs.LinkLaws.{link-rows}
 use Rattle.link_laws.specs.Order.{isOfTree, treeRows}
 use Rattle.link_laws.specs.OrderLaws.{linkOrder, depthUnder, link-ordered, order-length}
@@ -22,7 +23,7 @@ use Rattle.link.specs.Link.{joinedTree}
 use Rattle.link.specs.Sort.{cellAt, sortedRows}
 use Rattle.link.specs.Walk.{within32, walking, joining, joinWalk}
 use Rattle.link_exact.specs.DetachExact.{detached-is}
-use Rattle.link_exact.specs.LinkExact.{link-exact, link-fits}
+use Rattle.link_exact.specs.LinkExact.{link-exact, link-fits, framed}
 use Rattle.link_exact.specs.SortExact.{tree-lists}
 use Rattle.link_exact.specs.WalkExact.{stored-within, within-small, walk-levels}
 
@@ -45,6 +46,9 @@ module _ {c : ℕ} {p : Parts} {n x v door : ℕ} (r : Rules c (tableOf p n)) (f
 
   pub tree-fits : Fits c after
   tree-fits = link-fits r fit h (detached-is r fit h)
+
+  pub tree-frame : LinkFrame c t (tableOf after n) x v
+  tree-frame = framed r fit h (detached-is r fit h)
 
   -- at most 32,768 rows for each of at most 32,768 joins
   few : renumbered ≤ 4294967295

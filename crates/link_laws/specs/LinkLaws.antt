@@ -44,14 +44,14 @@ module _ {capacity : ℕ} {t d : Table} {x v door k : ℕ} (r : Rules capacity t
   was = stored (own-trees (numbered r small))
 
   -- the rows of the other trees
-  record Stays (w : ℕ) : Type 0 where
-    inside : w < t .layer .count
-    other : first (t .layer) w ≢ first (t .layer) x
+  pub record Stays (w : ℕ) : Type 0 where
+    pub inside : w < t .layer .count
+    pub other : first (t .layer) w ≢ first (t .layer) x
 
   unmoved : {w : ℕ} → Stays w → Member (q .order) w → ⊥
   unmoved {w} p m = p .other (q .ordered .moved w m)
 
-  marks-rest : {w : ℕ} → Stays w → SameMarks t d w
+  pub marks-rest : {w : ℕ} → Stays w → SameMarks t d w
   marks-rest {w} p =
       let m = joinings-marks (q .joins) w (omega (arith, q .count, p .inside)) (unmoved p) in
       record { sameLabel = m .sameLabel ∙ q .labels w (p .inside); sameLevel = m .sameLevel ∙ q .levels w (p .inside) (p .other) }

@@ -10,13 +10,14 @@ use Rattle.layer.specs.Layout.{fieldStride, parentPlace, firstPlace, lastPlace,
 use Rattle.layer.specs.Row.{fieldAt}
 use Rattle.layer.specs.Spans.{end}
 use Rattle.layer.specs.Layer.{Layer, parent, depth, upper}
+use Rattle.join_laws.specs.Lone.{Kept}
 use Rattle.join_laws.specs.Renumbered.{Below, rows, Renumbered}
 use Rattle.renumber_laws.specs.Sizes.{Sizing}
 use Rattle.renumber_laws.specs.SizesSwept.{Sized}
 use Rattle.renumber_laws.specs.Numbers.{Numbers}
 use Rattle.renumber_laws.specs.Renumbering.{linksOf, sizesOf, numbersOf, withColumns, Renumberable}
-use Rattle.renumber_laws.specs.WalkedLaws.{lastNumbers, last-renumbered}
-use Rattle.renumber_laws.specs.SameRowsLaws.{SameRow, renumbered-same}
+use Rattle.renumber_laws.specs.WalkedLaws.{lastNumbers, last-renumbered, last-unused}
+use Rattle.renumber_laws.specs.SameRowsLaws.{SameRow, kept-row, renumbered-same}
 use Rattle.renumber.specs.declared.Head.{Head}
 use Rattle.renumber.specs.Count.{stepsOf}
 use Rattle.renumber.specs.SizeWalk.{sizeWalk}
@@ -37,6 +38,7 @@ pub record RenumberedExactly (c : ℕ) (t : Written) (n h : ℕ) (z : Walked) : 
   pub renumbered : Renumbered (layerIn t n) (layerIn (z .parts) n) h
   pub given : z .given ≡ rows (layerIn t n) h
   pub rest : SameRest (t .fields) (z .parts .fields)
+  pub unused : (x : ℕ) → n ≤ x → x < c → Kept (layerIn t n) (layerIn (z .parts) n) x
 
 module _ {c : ℕ} (t : Written) (n h : ℕ) (fit : Long c t) (room : n ≤ c) (g : Renumberable (layerIn t n) h)
     (safe : (d : Layer) → Renumbered (layerIn t n) d h → (x : ℕ) → x < n → end d x ≤ limit) where
@@ -101,7 +103,7 @@ module _ {c : ℕ} (t : Written) (n h : ℕ) (fit : Long c t) (room : n ≤ c) (
       → fieldAt (after .parts .fields) y k ≡ fieldAt (t .fields) y k
   stays y k a d₁ d₂ d₃ d₄ = numbers .rest y k a d₁ d₂ d₃ ∙ kept y k a d₂ d₄
 
-  same-row : (x : ℕ) → x < n → SameRow (withColumns m (s .path) (lastNumbers g sized)) (layerIn (after .parts) n) x
+  same-row : (x : ℕ) → x < c → SameRow (withColumns m (s .path) (lastNumbers g sized)) (layerIn (after .parts) n) x
   same-row x l = record {
     node = record {
       sameParent = stays x parentPlace (omega arith) (λ e. omega arith) (λ e. omega arith) (λ e. omega arith) (λ e. omega arith);
@@ -130,7 +132,8 @@ module _ {c : ℕ} (t : Written) (n h : ℕ) (fit : Long c t) (room : n ≤ c) (
       numbers = numbers .numbers .long;
       ancestors = numbers .ancestors .long;
     };
-    renumbered = renumbered-same g (last-renumbered g sized) record { count = refl; row = same-row };
+    renumbered = renumbered-same g (last-renumbered g sized) record { count = refl; row = λ x l. same-row x (omega arith) };
     given = after-given g sized room links-after (held .path) first within;
     rest = λ y k a b. stays y k b (λ e. omega arith) (λ e. omega arith) (λ e. omega arith) (λ e. omega arith);
+    unused = λ x i l. kept-row (last-unused g sized x i (λ e. omega (arith, fit .most))) (same-row x l);
   }

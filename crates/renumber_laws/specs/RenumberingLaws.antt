@@ -2,6 +2,7 @@
 use mathlib.Core.Path.{_≡_, refl, sym, _∙_}
 use mathlib.Core.Logic.{inl, inr, _≢_}
 use Prim.Native.Nat.{ℕ, _-_, _≤_, _<_}
+use native.Mathlib.Decide.{ℕ-discrete}
 use native.Mathlib.Omega.{arith}
 use Rattle.laws.specs.Test.{says-true, says-false, says-eqb}
 use Rattle.laws.specs.Sum.{sumOf}
@@ -17,10 +18,11 @@ use Rattle.tree_laws.specs.Siblings.{count}
 use Rattle.tree_laws.specs.Size.{size as sizeIn, childSum}
 use Rattle.tree_laws.specs.SizeLaws.{size-pos}
 use Rattle.layer.specs.Layer.{Layer, parent, depth, upper, path}
+use Rattle.join_laws.specs.Lone.{Kept}
 use Rattle.join_laws.specs.Renumbered.{Below, Rebuilt, Renumbered}
 use Rattle.join_laws.specs.RebuiltLaws.{rebuilt-compressed}
 use Rattle.join_laws.specs.StartOrder.{StartOrder}
-use Rattle.join_laws.specs.Trees.{stored, upper-out}
+use Rattle.join_laws.specs.Trees.{stored, uppers, upper-out}
 use Rattle.renumber_laws.specs.HeavyChild.{heavy-in-use, heavy-over, heavy-half, light-half}
 use Rattle.renumber_laws.specs.Sizes.{Sizing}
 use Rattle.renumber_laws.specs.SizesSwept.{Sized}
@@ -70,11 +72,11 @@ module _ {m : Layer} {h : ℕ} {s : Sizing} (g : Renumberable m h) (q : Sized (p
   sized-links = record {
     inside = λ v l. elim (decAnc (stored-tree g) h v l) [
       | yes r ↦ heavy-in-use (stored-tree g) (q .pathIn v l r)
-      | no o ↦ rw (q .pathOut v o) (g .trees .inUse v l)
+      | no o ↦ rw (q .pathOut v (λ _. o)) (g .trees .inUse v l)
     ];
     over = λ v l. elim (decAnc (stored-tree g) h v l) [
       | yes r ↦ heavy-over (stored-tree g) (q .pathIn v l r)
-      | no o ↦ rw (q .pathOut v o) (g .trees .link v l)
+      | no o ↦ rw (q .pathOut v (λ _. o)) (g .trees .link v l)
     ];
   }
 
@@ -82,20 +84,20 @@ module _ {m : Layer} {h : ℕ} {s : Sizing} (g : Renumberable m h) (q : Sized (p
   sized-start = record {
     tree = stored-tree g;
     inUse = g .inUse;
-    apex = λ i e. g .apex i (sym (q .pathOut (parent m h) (no-loop (stored-tree g) h (g .inUse) i)) ∙ e);
+    apex = λ i e. g .apex i (sym (q .pathOut (parent m h) (λ _. no-loop (stored-tree g) h (g .inUse) i)) ∙ e);
     out = upper-out (g .trees) h (g .inUse);
   }
 
   -- Both walks
 
   module _ {c : Numbers} (a : AllPlaced (parent m) (s .path) (heavyLast (linksOf m) (s .path) .next) (depth m) (m .count) h (numbersOf m (s .size)) c) where
-    not-placed : (x : ℕ) → ¬ Below m h x → ¬ Member (a .list) x
-    not-placed x o z = o (a .done .below x z)
+    not-placed : (x : ℕ) → (x < m .count → ¬ Below m h x) → ¬ Member (a .list) x
+    not-placed x o z = o (a .done .inUse x z) (a .done .below x z)
 
     built : Rebuilt m (withColumns m (s .path) c) h
     built = record {
-      pathOut = λ x l o. q .pathOut x o;
-      upperOut = λ x l o. a .done .kept x (not-placed x o) .upper;
+      pathOut = λ x l o. q .pathOut x (λ _. o);
+      upperOut = λ x l o. a .done .kept x (not-placed x (λ _. o)) .upper;
       upperHead = a .done .upperHead;
       inUse = λ v l r. heavy-in-use (stored-tree g) (q .pathIn v l r);
       link = λ v l r. heavy-over (stored-tree g) (q .pathIn v l r);
@@ -148,9 +150,9 @@ module _ {m : Layer} {h : ℕ} {s : Sizing} (g : Renumberable m h) (q : Sized (p
         links = λ x l. record { sameFirst = refl; sameLast = refl; sameNext = refl };
       };
       built = built;
-      numbersOut = λ x l o. let e = a .done .kept x (not-placed x o) in
-          record { sameSize = e .size ∙ q .sizeOut x o; sameSetSize = e .setSize; sameStart = e .start; sameEntry = λ i j. e .entry i };
-      nextFreeOut = λ x l o i. a .done .nextFreeKept x (not-placed x o) i;
+      numbersOut = λ x l o. let e = a .done .kept x (not-placed x (λ _. o)) in
+          record { sameSize = e .size ∙ q .sizeOut x (λ _. o); sameSetSize = e .setSize; sameStart = e .start; sameEntry = λ i j. e .entry i };
+      nextFreeOut = λ x l o i. a .done .nextFreeKept x (not-placed x (λ _. o)) i;
       startHead = λ i. a .done .startHead ∙ start-some (numbersOf m (s .size)) h i;
       startRoot = λ e. a .done .startHead ∙ start-none (numbersOf m (s .size)) h e;
       nextFreeHead = a .done .nextFreeHead;
@@ -166,3 +168,29 @@ module _ {m : Layer} {h : ℕ} {s : Sizing} (g : Renumberable m h) (q : Sized (p
       nextFrees = λ u l r. rw (← shares-all u l r) (a .done .nextFrees u (a .every u l r));
       filled = λ x l r i j. a .done .filled x (a .every x l r) i;
     }
+
+    -- a row that is not in use is as it was
+    pub unused-kept : (x : ℕ) → m .count ≤ x → x ≢ none → Kept m (withColumns m (s .path) c) x
+    unused-kept x l i =
+        let out : x < m .count → ¬ Below m h x = λ j. absurd (omega arith) in
+        let e = a .done .kept x (not-placed x out) in
+        record {
+          sameParent = refl;
+          sameDepth = refl;
+          sameFirst = refl;
+          sameLast = refl;
+          sameNext = refl;
+          sameUpper = e .upper;
+          samePath = q .pathOut x out;
+          sameSize = e .size ∙ q .sizeOut x out;
+          sameSetSize = e .setSize;
+          sameStart = e .start;
+          sameNextFree = a .done .nextFreeKept x (not-placed x out) other;
+          sameEntry = λ j b. e .entry j;
+        }
+      where
+        other : x ≢ upper m h
+        other e = elim (ℕ-discrete (upper m h) none) [
+          | yes z ↦ i (e ∙ z)
+          | no d ↦ omega (arith, uppers (g .trees) .inside h (g .inUse) d)
+        ]

@@ -17,6 +17,7 @@ use Rattle.layer.specs.Layer.{Layer, parent, depth, upper, path, size, setSize,
 use Rattle.layer.specs.Spans.{p}
 use Rattle.layer.specs.Entries.{entryAbove}
 use Rattle.join_laws.specs.Joined.{SameNode}
+use Rattle.join_laws.specs.Lone.{Kept}
 use Rattle.join_laws.specs.Renumbered.{Below, SameLinks, Rebuilt, Renumbered}
 use Rattle.join_laws.specs.RebuiltLaws.{rebuilt-compressed}
 use Rattle.join_laws.specs.StartOrder.{LightChild, StartOrder}
@@ -35,6 +36,23 @@ pub record SameRow (d e : Layer) (x : ℕ) : Type 0 where
   pub start : start e x ≡ start d x
   pub nextFree : nextFree e x ≡ nextFree d x
   pub entry : (i : ℕ) → i < entryStride → e .entry x i ≡ d .entry x i
+
+-- a row that was kept is kept in every layer that has it the same
+pub kept-row : {m d e : Layer} {x : ℕ} → Kept m d x → SameRow d e x → Kept m e x
+kept-row k s = record {
+  sameParent = s .node .sameParent ∙ k .sameParent;
+  sameDepth = s .node .sameDepth ∙ k .sameDepth;
+  sameFirst = s .links .sameFirst ∙ k .sameFirst;
+  sameLast = s .links .sameLast ∙ k .sameLast;
+  sameNext = s .links .sameNext ∙ k .sameNext;
+  sameUpper = s .upper ∙ k .sameUpper;
+  samePath = s .path ∙ k .samePath;
+  sameSize = s .size ∙ k .sameSize;
+  sameSetSize = s .setSize ∙ k .sameSetSize;
+  sameStart = s .start ∙ k .sameStart;
+  sameNextFree = s .nextFree ∙ k .sameNextFree;
+  sameEntry = λ i j. s .entry i j ∙ k .sameEntry i j;
+}
 
 -- the first n rows are the same, and so is the count
 pub record SameRows (n : ℕ) (d e : Layer) : Type 0 where

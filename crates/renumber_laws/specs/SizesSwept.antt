@@ -140,13 +140,13 @@ module _ (k : Links) {rank : ℕ → ℕ} {n : ℕ} (t : Forest (k .parent) rank
 
 -- The whole walk
 
--- after the walk from the head h: true sizes and heavy children at and below h, all else as before
+-- after the walk from the head h: true sizes and heavy children at and below h, all else as before, rows past the n in use too
 pub record Sized (up rank : ℕ → ℕ) (n h : ℕ) (s d : Sizing) : Type 0 where
   pub met : d .met ≡ s .met + size up rank n h
   pub sizeIn : (x : ℕ) → x < n → Anc up h x → d .size x ≡ size up rank n x
   pub pathIn : (x : ℕ) → x < n → Anc up h x → HeavyChild up rank n x (d .path x)
-  pub sizeOut : (x : ℕ) → ¬ Anc up h x → d .size x ≡ s .size x
-  pub pathOut : (x : ℕ) → ¬ Anc up h x → d .path x ≡ s .path x
+  pub sizeOut : (x : ℕ) → (x < n → ¬ Anc up h x) → d .size x ≡ s .size x
+  pub pathOut : (x : ℕ) → (x < n → ¬ Anc up h x) → d .path x ≡ s .path x
 
 module _ (k : Links) {rank : ℕ → ℕ} {n : ℕ} (t : Forest (k .parent) rank n) {h : ℕ} {f : Kin} (l : h < n) (u : Below k n h f) where
   -- no row stands below itself
@@ -166,8 +166,8 @@ module _ (k : Links) {rank : ℕ → ℕ} {n : ℕ} (t : Forest (k .parent) rank
     met = omega (arith, closed-all-met k t s b l u head-not-in q, size-count k t l u);
     sizeIn = λ x i a. closed-sizes k t s b l u head-not-in q x (at-or-in x i a);
     pathIn = λ x i a. closed-paths k t s b l u head-not-in q x (at-or-in x i a);
-    sizeOut = λ x o. closed-sizes-out k t s b l u head-not-in q x (λ e. o (rw e here)) (λ z. o (in-anc k t l u z));
-    pathOut = λ x o. closed-paths-out k t s b l u head-not-in q x (λ e. o (rw e here)) (λ z. o (in-anc k t l u z));
+    sizeOut = λ x o. closed-sizes-out k t s b l u head-not-in q x (not-head x o) (not-in x o);
+    pathOut = λ x o. closed-paths-out k t s b l u head-not-in q x (not-head x o) (not-in x o);
   }
     where
       b : Sizing
@@ -175,6 +175,12 @@ module _ (k : Links) {rank : ℕ → ℕ} {n : ℕ} (t : Forest (k .parent) rank
 
       q : Swept (k .parent) rank n h f (λ _. ⊥) (opened h s) (sweep (sizeVisit (k .parent)) f (opened h s))
       q = swept k t (opened h s) (u .reads) (u .whole) (reads-distinct k t l (u .whole) (u .reads)) head-not-in (none-done h f s)
+
+      not-head : (x : ℕ) → (x < n → ¬ Anc (k .parent) h x) → x ≢ h
+      not-head x o e = o (rw e l) (rw e here)
+
+      not-in : (x : ℕ) → (x < n → ¬ Anc (k .parent) h x) → ¬ In f x
+      not-in x o z = o (in-inside (u .whole) z) (in-anc k t l u z)
 
       at-or-in : (x : ℕ) → x < n → Anc (k .parent) h x → (x ≡ h) ⊎ In f x
       at-or-in x i a = elim (anc-in-kin k t l u i a) [ inl e ↦ inl (sym e) | inr z ↦ inr z ]

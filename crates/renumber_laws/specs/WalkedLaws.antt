@@ -1,9 +1,10 @@
 -- Both walks as loops of 2 · rows − 1 turns: a loop whose turns do the visits of the walk renumbers the head.
 use mathlib.Core.Path.{_≡_, refl}
 use mathlib.Core.Logic.{_≢_}
-use Prim.Native.Nat.{ℕ, suc, _+_, _-_, _*_, _<_}
+use Prim.Native.Nat.{ℕ, suc, _+_, _-_, _*_, _≤_, _<_}
 use native.Mathlib.Omega.{arith}
 use Rattle.laws.specs.Test.{says-true}
+use Rattle.tree_laws.specs.Ancestor.{none}
 use Rattle.tree_laws.specs.AncestorLaws.{row-some}
 use Rattle.tree_laws.specs.CompressedLaws.{says-isApex}
 use Rattle.tree_laws.specs.HeavyLast.{heavyLast, arranged}
@@ -12,6 +13,7 @@ use Rattle.tree_laws.specs.Siblings.{Kin, count, In, Distinct, Below as AllBelo
 use Rattle.tree_laws.specs.SiblingsLaws.{in-inside, in-anc, reads-distinct, size-count}
 use Rattle.tree_laws.specs.Walk.{Position, down, up, move, sweep}
 use Rattle.layer.specs.Layer.{Layer, parent, depth}
+use Rattle.join_laws.specs.Lone.{Kept}
 use Rattle.join_laws.specs.Renumbered.{Below, rows, Renumbered}
 use Rattle.renumber_laws.specs.Sizes.{Sizing, opened, closed, sizeVisit, sizePass}
 use Rattle.renumber_laws.specs.SizesLaws.{opened-met, through-sizes}
@@ -23,7 +25,7 @@ use Rattle.renumber_laws.specs.CarriedLaws.{sweep-carried, through-carri
 use Rattle.renumber_laws.specs.Loop.{turns, Through, Turning, Came}
 use Rattle.renumber_laws.specs.LoopLaws.{turns-add, loop-forest}
 use Rattle.renumber_laws.specs.Renumbering.{linksOf, sizesOf, numbersOf, withColumns, Renumberable}
-use Rattle.renumber_laws.specs.RenumberingLaws.{stored-tree, head-below, sized-links, sized-start, both-walks}
+use Rattle.renumber_laws.specs.RenumberingLaws.{stored-tree, head-below, sized-links, sized-start, both-walks, unused-kept}
 
 -- x lies below the head, and is not the head
 pub record Under (m : Layer) (h x : ℕ) : Type 0 where
@@ -86,6 +88,9 @@ module _ {m : Layer} {h : ℕ} (g : Renumberable m h) where
 
     pub last-renumbered : Renumbered m (withColumns m (s .path) lastNumbers) h
     last-renumbered = both-walks g b last-placed
+
+    pub last-unused : (x : ℕ) → m .count ≤ x → x ≢ none → Kept m (withColumns m (s .path) lastNumbers) x
+    last-unused = unused-kept g b last-placed
 
     -- The loop for numbers: the head is placed before its first turn, and its last turn goes up out of the head
 

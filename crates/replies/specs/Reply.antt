@@ -39,15 +39,15 @@ abbrev pub madeReply : List ℕ → SetUpOutcome → Reply ℕ
 madeReply out (notMade n) = reply n out
 madeReply out (empty c) = reply 0 (c ∷ [])
 
--- count, the new node, and the rows renumbered
+-- count, the new node, the rows renumbered, and their head
 abbrev pub grownReply : List ℕ → GrowthOutcome → Reply ℕ
 grownReply out (notGrown n) = reply n out
-grownReply out (node c n k) = reply 0 (c ∷ n ∷ k ∷ [])
+grownReply out (node c n k h) = reply 0 (c ∷ n ∷ k ∷ h ∷ [])
 
--- the rows renumbered
+-- the rows renumbered, and the head
 abbrev pub linkReply : List ℕ → LinkOutcome → Reply ℕ
 linkReply out (notLinked n) = reply n out
-linkReply out (linked k) = reply 0 (k ∷ [])
+linkReply out (linked k h) = reply 0 (k ∷ h ∷ [])
 
 -- the nearest common ancestor, the branches towards x and y, their distances, and the label
 abbrev pub questionReply : List ℤ → QuestionOutcome → Reply ℤ

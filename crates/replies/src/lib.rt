@@ -25,6 +25,12 @@ fn signed(x: u16) -> i32
     x as i32
 }
 
+fn wide(x: u16) -> u32
+    ensures { λ r. ⌜ r ≡ x ⌝ }
+{
+    x as u32
+}
+
 fn bit_of(b: bool) -> u16
     ensures { λ r. ⌜ r ≡ bit b ⌝ }
 {
@@ -38,20 +44,22 @@ fn put_one(out: &mut [u16], a: u16)
     out[0] = a;
 }
 
-fn put_wide(out: &mut [u32], a: u32)
-    requires { ⌜ length (now out) ≡ 1 ⌝ }
-    ensures { λ _. ⌜ now (out .exit) ≡ a ∷ [] ⌝ }
+fn put_two(out: &mut [u32], a: u32, b: u32)
+    requires { ⌜ length (now out) ≡ 2 ⌝ }
+    ensures { λ _. ⌜ now (out .exit) ≡ a ∷ b ∷ [] ⌝ }
 {
     out[0] = a;
+    out[1] = b;
 }
 
-fn put_three(out: &mut [u16], a: u16, b: u16, c: u16)
-    requires { ⌜ length (now out) ≡ 3 ⌝ }
-    ensures { λ _. ⌜ now (out .exit) ≡ a ∷ b ∷ c ∷ [] ⌝ }
+fn put_four(out: &mut [u16], a: u16, b: u16, c: u16, d: u16)
+    requires { ⌜ length (now out) ≡ 4 ⌝ }
+    ensures { λ _. ⌜ now (out .exit) ≡ a ∷ b ∷ c ∷ d ∷ [] ⌝ }
 {
     out[0] = a;
     out[1] = b;
     out[2] = c;
+    out[3] = d;
 }
 
 fn put_six(out: &mut [i32], a: i32, b: i32, c: i32, d: i32, e: i32, f: i32)
@@ -80,13 +88,13 @@ pub fn reply_made(made: Made, out: &mut [u16]) -> u16
 }
 
 pub fn reply_grown(grown: Grown, out: &mut [u16]) -> u16
-    requires { ⌜ length (now out) ≡ 3 ⌝ }
+    requires { ⌜ length (now out) ≡ 4 ⌝ }
     ensures { λ r. ⌜ reply r (now (out .exit)) ≡ grownReply (now (out .entry)) (growthOf grown) ⌝ }
 {
     match grown {
         Grown::Node(g) => {
             let s = g.state;
-            put_three(out, s.count, g.node, g.rows);
+            put_four(out, s.count, g.node, g.rows, g.head);
             0
         }
         Grown::Refused(r) => number_of(r),
@@ -94,12 +102,12 @@ pub fn reply_grown(grown: Grown, out: &mut [u16]) -> u16
 }
 
 pub fn reply_linked(linked: Linked, out: &mut [u32]) -> u16
-    requires { ⌜ length (now out) ≡ 1 ⌝ }
+    requires { ⌜ length (now out) ≡ 2 ⌝ }
     ensures { λ r. ⌜ reply r (now (out .exit)) ≡ linkReply (now (out .entry)) (linkOf linked) ⌝ }
 {
     match linked {
         Linked::Under(l) => {
-            put_wide(out, l.rows);
+            put_two(out, l.rows, wide(l.head));
             0
         }
         Linked::Refused(r) => number_of(r),

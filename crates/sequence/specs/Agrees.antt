@@ -7,11 +7,11 @@ use Rattle.tree_laws.specs.Answer.{Answer}
 use Rattle.plain_list.specs.PlainStep.{PlainReply, refusal as plainRefusal, node as plainNode, linked as plainLinked, answered as plainAnswered, same as plainSame, passes as plainPasses}
 use Rattle.sequence.specs.Calls.{Reply, refusal, node, linked, answered, same, passes}
 
--- the same refusal, node, link, six values, 1 or 0, or yes; the rows renumbered are not the plain list's to tell
+-- the same refusal, node, link, six values, 1 or 0, or yes; the rows renumbered and their head are not the plain list's to tell
 pub data Agrees : PlainReply → Reply → Type 0 where
   refusals : (n : ℕ) → Agrees (plainRefusal n) (refusal n)
-  nodes : (n rows : ℕ) → Agrees (plainNode n) (node n rows)
-  links : (rows : ℕ) → Agrees plainLinked (linked rows)
+  nodes : (n rows head : ℕ) → Agrees (plainNode n) (node n rows head)
+  links : (rows head : ℕ) → Agrees plainLinked (linked rows head)
   answers : (r : Answer) → Agrees (plainAnswered r) (answered (r .nca) (r .toX) (r .toY) (pos (r .distanceX)) (pos (r .distanceY)) (r .label))
   alikes : (b : ℕ) → Agrees (plainSame b) (same b)
   pass : Agrees plainPasses (passes true)

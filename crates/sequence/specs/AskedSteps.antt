@@ -48,7 +48,7 @@ module _ {c : ℕ} {f : Fast} {p : PlainList} {stored : StoredList} {total joini
   steps-by q r v e i k = rw (e, i) k
 
   pub still-refused : (q : Call) (n : ℕ) → StepStands c f p stored total joinings q (refusalOf n p) (replies f (refusal n))
-  still-refused q n = still s q (refusals n) refl (λ n k e. let z : _≡_ {A = ℕ} 0 1 = cc in omega arith) (λ k e. let z : _≡_ {A = ℕ} 0 1 = cc in omega arith)
+  still-refused q n = still s q (refusals n) refl (λ n k h e. let z : _≡_ {A = ℕ} 0 1 = cc in omega arith) (λ k h e. let z : _≡_ {A = ℕ} 0 1 = cc in omega arith)
 
   -- Nodes of one tree
 
@@ -72,7 +72,7 @@ module _ {c : ℕ} {f : Fast} {p : PlainList} {stored : StoredList} {total joini
         → StepStands c f p stored total joinings (question x y) (plainOutcome c p (plainQuestion x y)) (step f (question x y))
     unfolding step
     question-given r e i = steps-by (question x y) (plainAnswered r) _ e (ap (λ (o : QuestionOutcome). replies f (questionReply o)) i)
-        (still s (question x y) (answers r) refl (λ n k e. let z : _≡_ {A = ℕ} 0 1 = cc in omega arith) (λ k e. let z : _≡_ {A = ℕ} 0 1 = cc in omega arith))
+        (still s (question x y) (answers r) refl (λ n k h e. let z : _≡_ {A = ℕ} 0 1 = cc in omega arith) (λ k h e. let z : _≡_ {A = ℕ} 0 1 = cc in omega arith))
 
     question-answered : x < countOf p → y < countOf p → rootIn p x ≡ rootIn p y
         → StepStands c f p stored total joinings (question x y) (plainOutcome c p (plainQuestion x y)) (step f (question x y))
@@ -115,7 +115,7 @@ module _ {c : ℕ} {f : Fast} {p : PlainList} {stored : StoredList} {total joini
         steps-by (alike x y) (plainSame (bit b)) (same (bit b))
         (alike-served c p x y l m k ∙ ap (λ (a : Bool). plainReplies (plainSame (bit a)) p) (naive-same-is (s .proper) (s .shows) l m (e .says)))
         (ap (λ (o : AlikeOutcome). replies f (alikeReply o)) (e .outcome))
-        (still s (alike x y) (alikes (bit b)) refl (λ n k e. let z : _≡_ {A = ℕ} 0 1 = cc in omega arith) (λ k e. let z : _≡_ {A = ℕ} 0 1 = cc in omega arith))
+        (still s (alike x y) (alikes (bit b)) refl (λ n k h e. let z : _≡_ {A = ℕ} 0 1 = cc in omega arith) (λ k h e. let z : _≡_ {A = ℕ} 0 1 = cc in omega arith))
 
     pub alike-step : StepStands c f p stored total joinings (alike x y) (plainOutcome c p (plainAlike x y)) (step f (alike x y))
     alike-step = elim (decLt x (countOf p)) [
@@ -150,5 +150,5 @@ module _ {c : ℕ} {f : Fast} {p : PlainList} {stored : StoredList} {total joini
         (ap (λ (o : InspectionOutcome). replies f (inspectionReply o)) (inspection-not (length scratch) d)) (still-refused (inspection scratch) 3)
     | yes e ↦ steps-by (inspection scratch) plainPasses (passes true) (inspection-served c p (length scratch) e)
         (ap (λ (o : InspectionOutcome). replies f (inspectionReply o)) (inspection-is (length scratch) e))
-        (still s (inspection scratch) pass refl (λ n k e. let z : _≡_ {A = ℕ} 0 1 = cc in omega arith) (λ k e. let z : _≡_ {A = ℕ} 0 1 = cc in omega arith))
+        (still s (inspection scratch) pass refl (λ n k h e. let z : _≡_ {A = ℕ} 0 1 = cc in omega arith) (λ k h e. let z : _≡_ {A = ℕ} 0 1 = cc in omega arith))
   ]

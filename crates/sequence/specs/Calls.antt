@@ -35,12 +35,12 @@ unfoldable pub toldAll : List Call → List PlainCall
 toldAll [] = []
 toldAll (q ∷ qs) = told q ∷ toldAll qs
 
--- a refusal's number; a new node and the rows renumbered; the rows that a link's joinings renumbered, added up; the six values of a question; 1 or 0
--- for alike; whether inspection passes
+-- a refusal's number; a new node, the rows renumbered and their head; the rows that a link's joinings renumbered, added up, and its head; the six values
+-- of a question; 1 or 0 for alike; whether inspection passes
 pub data Reply : Type 0 where
   refusal : ℕ → Reply
-  node : (number rows : ℕ) → Reply
-  linked : (rows : ℕ) → Reply
+  node : (number rows head : ℕ) → Reply
+  linked : (rows head : ℕ) → Reply
   answered : (nca toX toY : ℕ) (distanceX distanceY : ℤ) (label : ℕ) → Reply
   same : ℕ → Reply
   passes : Bool → Reply

@@ -35,10 +35,10 @@ use Rattle.plain_list.specs.Shows.{Shows}
 use Rattle.plain_list.specs.StoredList.{StoredList, storedUnder, storedBy, storedBelow}
 use Rattle.plain_list.specs.Stores.{Stores, stores-node, stores-below}
 use Rattle.sequence.specs.Calls.{Call, refusal, node, told}
-use Rattle.sequence.specs.Run.{Fast, tableIn, Turn, replies, grownReply, stateAfter, afterGrowth, rowsIn}
+use Rattle.sequence.specs.Run.{Fast, tableIn, Turn, replies, grownReply, stateAfter, afterGrowth, rowsIn, headIn}
 use Rattle.sequence.specs.Agrees.{Agrees, nodes}
 use Rattle.sequence.specs.Invariant.{Stands}
-use Rattle.sequence.specs.StepExact.{Asks, asks-leaf, asks-root, asks-over, Begins, begins-first, begins-root, growth, start, StepStands, few-rows}
+use Rattle.sequence.specs.StepExact.{Asks, asks-leaf, asks-root, asks-over, Begins, begins-first, begins-root, Renumbers, growth, start, StepStands, few-rows}
 use Rattle.sequence.specs.Trees.{root-shown}
 use Rattle.sequence.specs.AskedSteps.{steps-by, still-refused}
 
@@ -46,8 +46,8 @@ use Rattle.sequence.specs.AskedSteps.{steps-by, still-refused}
 pub says-label : (l : ℕ) → Says ((1 ≤ l) × (l ≤ labelLimit)) (isLabel l)
 says-label l = says-and (says-leb 1 l) (λ _. says-leb l labelLimit)
 
-node-agrees : {a b : ℕ} (k : ℕ) → a ≡ b → Agrees (plainNode a) (node b k)
-node-agrees {a} {b} k e = rw e (nodes b k)
+node-agrees : {a b : ℕ} (k h : ℕ) → a ≡ b → Agrees (plainNode a) (node b k h)
+node-agrees {a} {b} k h e = rw e (nodes b k h)
 
 module _ {c : ℕ} {f : Fast} {p : PlainList} {stored : StoredList} {total joinings : ℕ} (s : Stands c f p stored total joinings) where
   -- Served
@@ -91,10 +91,10 @@ module _ {c : ℕ} {f : Fast} {p : PlainList} {stored : StoredList} {total joini
         → Next (tableGrown (f .state) o) p′ → StepStands c f p stored total joinings q (grows p p′) (afterGrowth (f .state) o)
     grown-step {q} {g} {p′} e a n = rw (ap turn (e .answered)) record {
       exact = record {
-        agrees = node-agrees _ (s .count);
+        agrees = node-agrees _ _ (s .count);
         few = λ x y _. few-rows (f .parts) (s .fits) (f .state) x y;
-        renumbers = λ m k i. growth (e .head) a (e .grown) (sym (ap rowsIn i) ∙ below);
-        links = λ k i. absurd (let z : _≡_ {A = ℕ} 0 1 = cc in omega arith);
+        renumbers = λ m k h i. renumbered (ap headIn i) (sym (ap rowsIn i) ∙ below);
+        links = λ k h i. absurd (let z : _≡_ {A = ℕ} 0 1 = cc in omega arith);
         stored = after;
         kept = λ n i. absurd (let z : _≡_ {A = ℕ} 0 1 = cc in omega arith);
       };
@@ -116,14 +116,18 @@ module _ {c : ℕ} {f : Fast} {p : PlainList} {stored : StoredList} {total joini
         below : rows (tableGrown (f .state) o .layer) (e .head) ≡ storedBelow (storedBy p stored (told q) (plainNode (countOf p))) (e .head)
         below = stores-below (shape (numbered (e .rules) (s .fits .most))) after (e .head)
 
+        renumbered : {k h : ℕ} → e .head ≡ h → k ≡ storedBelow (storedBy p stored (told q) (plainNode (countOf p))) (e .head)
+            → Renumbers c (storedBy p stored (told q) (plainNode (countOf p))) (tableIn f) (tableGrown (f .state) o) k h q
+        renumbered i j = rw (← i) (growth a (e .grown) (e .frame) j)
+
     pub started-step : {q : Call} {p′ : PlainList} → StartedExactly c (f .parts) (f .state) o → Begins (tableIn f) q
         → Next (tableGrown (f .state) o) p′ → StepStands c f p stored total joinings q (grows p p′) (afterGrowth (f .state) o)
     started-step {q} {p′} e a n = rw (ap turn (e .answered)) record {
       exact = record {
-        agrees = node-agrees _ (s .count);
+        agrees = node-agrees _ _ (s .count);
         few = λ x y _. few-rows (f .parts) (s .fits) (f .state) x y;
-        renumbers = λ m k i. start a (e .started) (sym (ap rowsIn i));
-        links = λ k i. absurd (let z : _≡_ {A = ℕ} 0 1 = cc in omega arith);
+        renumbers = λ m k h i. start a (e .started) (e .frame) (sym (ap rowsIn i)) (sym (ap headIn i));
+        links = λ k h i. absurd (let z : _≡_ {A = ℕ} 0 1 = cc in omega arith);
         stored = stored-begun (e .started) a;
         kept = λ n i. absurd (let z : _≡_ {A = ℕ} 0 1 = cc in omega arith);
       };

@@ -35,7 +35,7 @@ use Rattle.plain_list.specs.Shows.{shows-link}
 use Rattle.plain_list.specs.StoredList.{StoredList, relinked}
 use Rattle.plain_list.specs.Stores.{Stores, stores-link}
 use Rattle.sequence.specs.Calls.{link, refusal}
-use Rattle.sequence.specs.Run.{Fast, tableIn, Turn, linkReply, afterLink, rowsIn, step}
+use Rattle.sequence.specs.Run.{Fast, tableIn, Turn, linkReply, afterLink, rowsIn, headIn, step}
 use Rattle.sequence.specs.Agrees.{links}
 use Rattle.sequence.specs.Invariant.{Stands}
 use Rattle.sequence.specs.StepExact.{joinings, StepStands, few-rows}
@@ -83,10 +83,10 @@ module _ {c : ℕ} {f : Fast} {p : PlainList} {stored : StoredList} {total joine
         (afterLink (f .state) o)
     linked-step {o} h i top d e = rw (ap (turn o) (e .answered)) record {
       exact = record {
-        agrees = links _;
+        agrees = links _ _;
         few = λ x y _. few-rows (f .parts) (s .fits) (f .state) x y;
-        renumbers = λ n k i. absurd (let z : _≡_ {A = ℕ} 0 1 = cc in omega arith);
-        links = λ k i. joinings (rw (ap rowsIn i) at (e .linked));
+        renumbers = λ n k h i. absurd (let z : _≡_ {A = ℕ} 0 1 = cc in omega arith);
+        links = λ k h i. joinings (rw (ap rowsIn i) at (e .linked)) (e .frame) (sym (ap headIn i));
         stored = after;
         kept = λ n i. absurd (let z : _≡_ {A = ℕ} 0 1 = cc in omega arith);
       };

@@ -2,6 +2,7 @@
 use mathlib.Core.List.{List, [], _∷_}
 use Prim.Native.Nat.{ℕ, _+_}
 use lib.ListN.{length}
+use Rattle.tree_laws.specs.Ancestor.{none}
 use Rattle.table.specs.declared.state.State.{State}
 use Rattle.table.specs.Parts.{Parts}
 use Rattle.table.specs.Table.{Table, tableOf}
@@ -43,11 +44,11 @@ replies f r = record { reply = r; after = f }
 -- a growth: the count as it returned it, after a refusal as it went in
 abbrev pub grownReply : GrowthOutcome → Reply
 grownReply (notGrown n) = refusal n
-grownReply (newNode c n k) = node n k
+grownReply (newNode c n k h) = node n k h
 
 abbrev pub stateAfter : State → GrowthOutcome → State
 stateAfter s (notGrown n) = s
-stateAfter s (newNode c n k) = record { count = c }
+stateAfter s (newNode c n k h) = record { count = c }
 
 abbrev pub afterGrowth : State → Growth → Turn
 afterGrowth s g = record { reply = grownReply (g .outcome); after = record { parts = g .parts; state = stateAfter s (g .outcome) } }
@@ -55,7 +56,7 @@ afterGrowth s g = record { reply = grownReply (g .outcome); after = record { par
 -- a link keeps the count
 abbrev pub linkReply : LinkOutcome → Reply
 linkReply (notLinked n) = refusal n
-linkReply (treeLinked k) = linked k
+linkReply (treeLinked k h) = linked k h
 
 abbrev pub afterLink : State → Link → Turn
 afterLink s l = record { reply = linkReply (l .outcome); after = record { parts = l .parts; state = s } }
@@ -96,13 +97,22 @@ run f (q ∷ qs) = let rest = run (step f q .after) qs in record { replies = ste
 -- the rows that a reply says were renumbered
 abbrev pub rowsIn : Reply → ℕ
 rowsIn (refusal n) = 0
-rowsIn (node n k) = k
-rowsIn (linked k) = k
+rowsIn (node n k h) = k
+rowsIn (linked k h) = k
 rowsIn (answered a u v i j l) = 0
 rowsIn (same b) = 0
 rowsIn (passes b) = 0
 
--- and all replies of a list
+-- the head that a reply names
+abbrev pub headIn : Reply → ℕ
+headIn (refusal n) = none
+headIn (node n k h) = h
+headIn (linked k h) = h
+headIn (answered a u v i j l) = none
+headIn (same b) = none
+headIn (passes b) = none
+
+-- the rows of all replies of a list
 unfoldable pub totalIn : List Reply → ℕ
 totalIn [] = 0
 totalIn (r ∷ rs) = rowsIn r + totalIn rs

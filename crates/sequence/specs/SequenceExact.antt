@@ -44,8 +44,8 @@ pub record SequenceExact (c : ℕ) (parts : Parts) (calls : List Call) : Type 0 
   pub setUp : setUp parts ≡ empty 0
   -- every reply is the plain list's
   pub replies : AllAgree (plainRun c emptyList (toldAll calls) .replies) (run (start parts) calls .replies)
-  -- each question draws on few rows, each served growth answers the rows at or below its head in the stored tree, each served link
-  -- those of its joinings, and a refusal changes nothing
+  -- each question draws on few rows; each served growth answers the rows at or below its head in the stored tree and the head, each served link those of
+  -- its joinings and the first row of the receiving tree, and both leave what their frame names; a refusal changes nothing
   pub each : EachExact c (start parts) emptyList [] calls
   -- the rows renumbered by all calls together
   pub total : totalIn (run (start parts) calls .replies) ≤ rowsPerJoining * plainRun c emptyList (toldAll calls) .joinings

@@ -7,6 +7,7 @@ use native.Mathlib.Omega.{arith}
 use Rattle.table.specs.Parts.{Parts}
 use Rattle.table.specs.Table.{Table}
 use Rattle.layer.specs.Layer.{parent}
+use Rattle.layer.specs.StoredTree.{first as firstRow}
 use Rattle.table.specs.PlainTree.{root as rootOf}
 use Rattle.table.specs.Capacity.{Fits}
 use Rattle.table.specs.declared.state.State.{State}
@@ -14,7 +15,9 @@ use Rattle.query.specs.FewRows.{DrawsOn}
 use Rattle.query.specs.FewRowsLaws.{question-few-rows}
 use Rattle.growth_laws.specs.Growth.{Growth, leaf as newLeaf, root as newRoot}
 use Rattle.growth_laws.specs.Grown.{Grown, Started}
+use Rattle.growth_laws.specs.GrowthFrame.{GrowthFrame, StartFrame}
 use Rattle.link_laws.specs.Link.{Linked}
+use Rattle.link_laws.specs.LinkFrame.{LinkFrame}
 use Rattle.plain_list.specs.PlainList.{PlainList}
 use Rattle.plain_list.specs.PlainStep.{PlainCall, PlainReply, PlainOutcome, replies as plainReplies}
 use Rattle.plain_list.specs.StoredList.{StoredList, storedBelow, storedBy}
@@ -35,14 +38,15 @@ pub data Begins (t : Table) : Call → Type 0 where
   begins-first : {s : List ℕ} → Begins t (first s)
   begins-root : {s : List ℕ} → t .layer .count ≡ 0 → Begins t (root s)
 
--- by call q table t became table d, and k is how many rows were renumbered; l is the stored list after the call
-pub data Renumbers (l : StoredList) (t d : Table) (k : ℕ) : Call → Type 0 where
-  -- by a growth: its head, and all rows below it in the stored tree
-  growth : {q : Call} {g : Growth} (head : ℕ) → Asks t q g → Grown t d g head → k ≡ storedBelow l head → Renumbers l t d k q
-  -- by a first node: its own row
-  start : {q : Call} → Begins t q → Started t d → k ≡ 1 → Renumbers l t d k q
-  -- by a link: those of all its joinings, added up
-  joinings : {x v door : ℕ} {s : List ℕ} → Linked t d x v door k → Renumbers l t d k (link x v door s)
+-- by call q table t, of capacity c, became table d, k is how many rows were renumbered, and h is their head; l is the stored list after the call. What the
+-- frame names did not change
+pub data Renumbers (c : ℕ) (l : StoredList) (t d : Table) (k h : ℕ) : Call → Type 0 where
+  -- by a growth: the head of its chain, and all rows below it in the stored tree
+  growth : {q : Call} {g : Growth} → Asks t q g → Grown t d g h → GrowthFrame c t d g h → k ≡ storedBelow l h → Renumbers c l t d k h q
+  -- by a first node: its own row, which heads itself
+  start : {q : Call} → Begins t q → Started t d → StartFrame c t d → k ≡ 1 → h ≡ t .layer .count → Renumbers c l t d k h q
+  -- by a link: those of all its joinings, added up; its head is the first row of the receiving stored tree
+  joinings : {x v door : ℕ} {s : List ℕ} → Linked t d x v door k → LinkFrame c t d x v → h ≡ firstRow (t .layer) v → Renumbers c l t d k h (link x v door s)
 
 -- a question draws on at most so many rows
 abbrev pub mostRows : ℕ
@@ -54,10 +58,10 @@ pub record StepExact (c : ℕ) (f : Fast) (l : StoredList) (q : Call) (o : Plain
   pub agrees : Agrees (o .reply) (u .reply)
   -- a question draws on few rows
   pub few : (x y : ℕ) → q ≡ question x y → DrawsOn mostRows c (f .parts) (f .state) x y
-  -- a served growth renumbers its head and all rows below it in the stored tree, a first node itself, and it answers how many these are
-  pub renumbers : (n k : ℕ) → u .reply ≡ node n k → Renumbers l (tableIn f) (tableIn (u .after)) k q
+  -- a served growth renumbers its head and all rows below it in the stored tree, a first node itself, and it answers how many these are, and the head
+  pub renumbers : (n k h : ℕ) → u .reply ≡ node n k h → Renumbers c l (tableIn f) (tableIn (u .after)) k h q
   -- and so does a served link
-  pub links : (k : ℕ) → u .reply ≡ linked k → Renumbers l (tableIn f) (tableIn (u .after)) k q
+  pub links : (k h : ℕ) → u .reply ≡ linked k h → Renumbers c l (tableIn f) (tableIn (u .after)) k h q
   -- the stored parents of the table are then the stored list's
   pub stored : Stores (parent (tableIn (u .after) .layer)) (u .after .state .count) l
   -- a refusal leaves parts and count as they went in
@@ -74,25 +78,25 @@ pub few-rows : {c : ℕ} (a : Parts) → Fits c a → (s : State) (x y : ℕ) �
 few-rows a f s x y = let d = question-few-rows a f s x y in record { rows = d .rows; few = omega (arith, d .few); decide = d .decide }
 
 -- a reply that tells of no node and of no link leaves the stored list as it is
-kept-stored : {r : PlainReply} {u : Reply} (p : PlainList) (l : StoredList) (q : PlainCall) → Agrees r u → ((n k : ℕ) → u ≢ node n k)
-    → ((k : ℕ) → u ≢ linked k) → l ≡ storedBy p l q r
+kept-stored : {r : PlainReply} {u : Reply} (p : PlainList) (l : StoredList) (q : PlainCall) → Agrees r u → ((n k h : ℕ) → u ≢ node n k h)
+    → ((k h : ℕ) → u ≢ linked k h) → l ≡ storedBy p l q r
 kept-stored p l q (refusals n) d i = refl
-kept-stored p l q (nodes n k) d i = absurd (d n k refl)
-kept-stored p l q (links k) d i = absurd (i k refl)
+kept-stored p l q (nodes n k h) d i = absurd (d n k h refl)
+kept-stored p l q (links k h) d i = absurd (i k h refl)
 kept-stored p l q (answers r) d i = refl
 kept-stored p l q (alikes b) d i = refl
 kept-stored p l q pass d i = refl
 
 -- a call that changes nothing and renumbers nothing
 pub still : {c : ℕ} {f : Fast} {p : PlainList} {l : StoredList} {total joinings : ℕ} → Stands c f p l total joinings → (q : Call) {r : PlainReply} {u : Reply}
-    → Agrees r u → rowsIn u ≡ 0 → ((n k : ℕ) → u ≢ node n k) → ((k : ℕ) → u ≢ linked k)
+    → Agrees r u → rowsIn u ≡ 0 → ((n k h : ℕ) → u ≢ node n k h) → ((k h : ℕ) → u ≢ linked k h)
     → StepStands c f p l total joinings q (plainReplies r p) (replies f u)
 still {c} {f} {p} {l} {total} {joinings} s q {r} {u} a z d i = record {
   exact = record {
     agrees = a;
     few = λ x y _. few-rows (f .parts) (s .fits) (f .state) x y;
-    renumbers = λ n k e. absurd (d n k e);
-    links = λ k e. absurd (i k e);
+    renumbers = λ n k h e. absurd (d n k h e);
+    links = λ k h e. absurd (i k h e);
     stored = same;
     kept = λ n e. refl;
   };

@@ -77,10 +77,10 @@ abbrev pub sevenFields : List Call
 sevenFields = threeFields ++ question 1 2 ∷ leaf 5 7 scratch ∷ root scratch ∷ question 2 3 ∷ []
 
 abbrev pub threeReplies : List Reply
-threeReplies = node 0 1 ∷ node 1 2 ∷ node 2 3 ∷ []
+threeReplies = node 0 1 0 ∷ node 1 2 0 ∷ node 2 3 0 ∷ []
 
 abbrev pub sevenReplies : List Reply
-sevenReplies = threeReplies ++ answered 1 1 2 (pos 0) (pos 1) 7 ∷ refusal 1 ∷ node 3 4 ∷ answered 3 0 3 (pos 3) (pos 0) 0 ∷ []
+sevenReplies = threeReplies ++ answered 1 1 2 (pos 0) (pos 1) 7 ∷ refusal 1 ∷ node 3 4 0 ∷ answered 3 0 3 (pos 3) (pos 0) 0 ∷ []
 
 -- a root and leaves below it
 abbrev pub star : List Call
@@ -104,12 +104,12 @@ cases =
       asked = pOf 0 ∷ qOf 0 ∷ endOf 0 ∷ pOf 1 ∷ pOf 2 ∷ [];
       due = record { replies = threeReplies; total = 6; levels = pos 0 ∷ pos 1 ∷ pos 2 ∷ []; numbers = 81 ∷ 324 ∷ 405 ∷ 82 ∷ 87 ∷ [] };
     }
-    -- a root with five leaves, which start in order of arrival, then a sixth, which renumbers 1 row and starts at 1,321
+    -- a root with five leaves, which start in order of arrival, then a sixth, which renumbers 1 row, its own, and starts at 1,321
     ∷ record {
       calls = star;
       asked = startOf 1 ∷ startOf 2 ∷ startOf 3 ∷ startOf 4 ∷ startOf 5 ∷ startOf 6 ∷ [];
       due = record {
-        replies = node 0 1 ∷ node 1 2 ∷ node 2 3 ∷ node 3 4 ∷ node 4 5 ∷ node 5 6 ∷ node 6 1 ∷ [];
+        replies = node 0 1 0 ∷ node 1 2 0 ∷ node 2 3 0 ∷ node 3 4 0 ∷ node 4 5 0 ∷ node 5 6 0 ∷ node 6 1 6 ∷ [];
         total = 22;
         levels = pos 0 ∷ pos 1 ∷ pos 1 ∷ pos 1 ∷ pos 1 ∷ pos 1 ∷ pos 1 ∷ [];
         numbers = 1296 ∷ 1301 ∷ 1306 ∷ 1311 ∷ 1316 ∷ 1321 ∷ [];
@@ -136,7 +136,7 @@ cases =
       calls = lightAfterHeavy;
       asked = startOf 4 ∷ startOf 1 ∷ startOf 2 ∷ startOf 3 ∷ [];
       due = record {
-        replies = node 0 1 ∷ node 1 2 ∷ node 2 3 ∷ node 3 4 ∷ node 4 5 ∷ [];
+        replies = node 0 1 0 ∷ node 1 2 0 ∷ node 2 3 0 ∷ node 3 4 0 ∷ node 4 5 0 ∷ [];
         total = 15;
         levels = pos 0 ∷ pos 1 ∷ pos 2 ∷ pos 2 ∷ pos 1 ∷ [];
         numbers = 625 ∷ 630 ∷ 635 ∷ 640 ∷ [];

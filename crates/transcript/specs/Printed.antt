@@ -25,11 +25,12 @@ alikeLetter = code "A"
 abbrev pub printedRefusal : ℕ → Printed
 printedRefusal n = record { letter = code "R"; values = pos n ∷ [] }
 
--- a reply to a call that prints this letter where it is served; a growth prints the new node, its level and the rows renumbered
+-- a reply to a call that prints this letter where it is served; a growth prints the new node, its level, the rows renumbered and their head
+-- (02: "In the program's T and L lines the head stands last")
 abbrev pub printed : ℕ → (ℕ → ℤ) → Reply → Printed
 printed letter level (refusal n) = printedRefusal n
-printed letter level (node n rows) = record { letter = letter; values = pos n ∷ level n ∷ pos rows ∷ [] }
-printed letter level (linked rows) = record { letter = letter; values = pos rows ∷ [] }
+printed letter level (node n rows head) = record { letter = letter; values = pos n ∷ level n ∷ pos rows ∷ pos head ∷ [] }
+printed letter level (linked rows head) = record { letter = letter; values = pos rows ∷ pos head ∷ [] }
 printed letter level (answered a u v i j l) = record { letter = letter; values = pos a ∷ pos u ∷ pos v ∷ i ∷ j ∷ pos l ∷ [] }
 printed letter level (same b) = record { letter = letter; values = pos b ∷ [] }
 printed letter level (passes b) = record { letter = letter; values = [] }

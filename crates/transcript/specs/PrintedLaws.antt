@@ -25,10 +25,11 @@ pub one-printed : (s : Shown) {letter : ℕ} {z a : ℤ} → s ≡ record { lett
     → printedOf s ≡ record { letter = letter; values = a ∷ [] }
 one-printed s e k = rw (e, kept-back k)
 
-pub three-printed : (s : Shown) {letter : ℕ} {x y z a b c : ℤ}
-    → s ≡ record { letter = letter; values = back x ∷ back y ∷ back z ∷ pos 0 ∷ pos 0 ∷ pos 0 ∷ []; count = 3 } → Kept x a → Kept y b → Kept z c
-    → printedOf s ≡ record { letter = letter; values = a ∷ b ∷ c ∷ [] }
-three-printed s e k l m = rw (e, kept-back k, kept-back l, kept-back m)
+pub four-printed : (s : Shown) {letter : ℕ} {w x y z a b c d : ℤ}
+    → s ≡ record { letter = letter; values = back w ∷ back x ∷ back y ∷ back z ∷ pos 0 ∷ pos 0 ∷ []; count = 4 }
+    → Kept w a → Kept x b → Kept y c → Kept z d
+    → printedOf s ≡ record { letter = letter; values = a ∷ b ∷ c ∷ d ∷ [] }
+four-printed s e k l m n = rw (e, kept-back k, kept-back l, kept-back m, kept-back n)
 
 pub six-printed : (s : Shown) {letter : ℕ} {u v w x y z a b c d e f : ℤ}
     → s ≡ record { letter = letter; values = back u ∷ back v ∷ back w ∷ back x ∷ back y ∷ back z ∷ []; count = 6 }

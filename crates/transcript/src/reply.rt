@@ -44,7 +44,7 @@ pub fn refused(n: u16) -> Shown
     first_of(b'R', 1, value(n), 0, 0, 0, 0, 0)
 }
 
-// The new node, its level in the levels afterwards, and the rows renumbered.
+// The new node, its level in the levels afterwards, the rows renumbered, and their head.
 pub fn grown(letter: u8, levels: &[i32], g: Grown) -> Shown
     ensures { λ r. ⌜ printedOf r ≡ printed letter (levelAt (now (levels .entry))) (grownReply (growthOf g)) ⌝ }
 {
@@ -53,11 +53,11 @@ pub fn grown(letter: u8, levels: &[i32], g: Grown) -> Shown
         Grown::Node(n) => {
             first_of(
                 letter,
-                3,
+                4,
                 value(n.node),
                 level(levels, n.node),
                 value(n.rows),
-                0,
+                value(n.head),
                 0,
                 0,
             )

@@ -1,5 +1,5 @@
--- All that the program prints is the listing of the log: each line is the plain list's reply in 01's form, with the rows that the call renumbered. The calls
--- are a list of demand 3, and the table and the total that the program ends with are those of that list.
+-- All that the program prints is the listing of the log: each line is the plain list's reply in 01's form, with the rows that the call renumbered and their
+-- head. The calls are a list of demand 3, and the table and the total that the program ends with are those of that list.
 use mathlib.Core.Path.{_≡_, refl, sym, ap, _∙_}
 use mathlib.Core.List.{List}
 use Prim.Native.Nat.{ℕ, suc, _*_, _≤_}
@@ -12,7 +12,7 @@ use Rattle.sequence.specs.Invariant.{start-stands}
 use Rattle.sequence.specs.SequenceExact.{SequenceExact, sequence-exact, rowsPerJoining, total-nodes}
 use Rattle.transcript.specs.Transcript.{readLog, rows, lent, scratch, opening, transcript}
 use Rattle.transcript.specs.WholeLaws.{lent-fits}
-use Rattle.transcript_exact.specs.Listing.{Item, Reads, callsIn, rowsOf, listing}
+use Rattle.transcript_exact.specs.Listing.{Item, Reads, callsIn, renumberingsIn, listing}
 use Rattle.transcript_exact.specs.LevelLaws.{one-empty}
 use Rattle.transcript_exact.specs.Logged.{logged-linkless}
 use Rattle.transcript_exact.specs.ReadingLaws.{listed}
@@ -22,10 +22,10 @@ pub record TranscriptExact (log : List ℕ) : Type 0 where
   -- the fields of the log
   pub items : List Item
   pub reads : Reads log 0 items
-  -- what demand 3 says of their calls: every reply is the plain list's, and tells the rows renumbered
+  -- what demand 3 says of their calls: every reply is the plain list's, and tells the rows renumbered and their head
   pub calls : SequenceExact rows lent (callsIn items)
   -- the lines, one by one
-  pub lines : transcript log ≡ listing items (rowsOf (run (start lent) (callsIn items) .replies))
+  pub lines : transcript log ≡ listing items (renumberingsIn (run (start lent) (callsIn items) .replies))
   -- what the program ends with
   pub table : readLog log scratch opening .last .fast ≡ run (start lent) (callsIn items) .last
   pub total : readLog log scratch opening .last .total ≡ totalIn (run (start lent) (callsIn items) .replies)

@@ -1,5 +1,5 @@
 -- The listing of a log by meaning (01, "Program and figures to check"): its fields, the plain list's replies to the calls that they ask for, and a line
--- to each. The plain list does not tell how many rows a call renumbers, so these numbers are handed in.
+-- to each. The plain list does not tell how many rows a call renumbers, nor their head, so both are handed in. The head stands last in a line (02).
 use mathlib.Core.Path.{_≡_}
 use mathlib.Core.Bool.{true}
 use mathlib.Core.List.{List, [], _∷_, _++_}
@@ -13,7 +13,7 @@ use Rattle.plain_list.specs.PlainList.{PlainList, emptyList, countOf}
 use Rattle.plain_list.specs.PlainStep.{PlainReply, refusal as plainRefusal, node as plainNode, linked as plainLinked, answered as plainAnswered, same as plainSame, passes as plainPasses}
 use Rattle.plain_list.specs.PlainStep.{plainOutcome, plainRun}
 use Rattle.sequence.specs.Calls.{Call, told, toldAll, Reply, refusal, node, linked, answered, same, passes}
-use Rattle.sequence.specs.Run.{rowsIn}
+use Rattle.sequence.specs.Run.{rowsIn, headIn}
 use Rattle.transcript.specs.Asked.{Asked, call, nothing, askedBy}
 use Rattle.transcript.specs.Printed.{Printed, printedRefusal, printed, letterOf, printedLine}
 use Rattle.transcript_exact.specs.Level.{levelIn}
@@ -43,27 +43,36 @@ callsIn (whole (call q) ∷ items) = q ∷ callsIn items
 
 -- ---- the replies
 
--- the plain list's reply, with the rows renumbered
-abbrev pub withRows : PlainReply → ℕ → Reply
-withRows (plainRefusal n) k = refusal n
-withRows (plainNode n) k = node n k
-withRows plainLinked k = linked k
-withRows (plainAnswered r) k = answered (r .nca) (r .toX) (r .toY) (pos (r .distanceX)) (pos (r .distanceY)) (r .label)
-withRows (plainSame b) k = same b
-withRows plainPasses k = passes true
+-- how many rows a call renumbers, and their head
+pub record Renumbering : Type 0 where
+  pub rows : ℕ
+  pub head : ℕ
 
--- what the plain list's replies to calls print, from the list p on, where the calls renumber so many rows each; the level is that in the list after the call
-unfoldable pub repliesFrom : PlainList → List Call → List ℕ → List Printed
+-- the plain list's reply, with what the call renumbers
+abbrev pub withRenumbering : PlainReply → Renumbering → Reply
+withRenumbering (plainRefusal n) k = refusal n
+withRenumbering (plainNode n) k = node n (k .rows) (k .head)
+withRenumbering plainLinked k = linked (k .rows) (k .head)
+withRenumbering (plainAnswered r) k = answered (r .nca) (r .toX) (r .toY) (pos (r .distanceX)) (pos (r .distanceY)) (r .label)
+withRenumbering (plainSame b) k = same b
+withRenumbering plainPasses k = passes true
+
+-- what the plain list's replies to calls print, from the list p on, where the calls renumber these; the level is that in the list after the call
+unfoldable pub repliesFrom : PlainList → List Call → List Renumbering → List Printed
 repliesFrom p [] ks = []
 repliesFrom p (q ∷ qs) [] = []
 repliesFrom p (q ∷ qs) (k ∷ ks) =
     let o = plainOutcome rows p (told q) in
-    printed (letterOf q) (levelIn (o .after)) (withRows (o .reply) k) ∷ repliesFrom (o .after) qs ks
+    printed (letterOf q) (levelIn (o .after)) (withRenumbering (o .reply) k) ∷ repliesFrom (o .after) qs ks
 
--- the rows that replies say were renumbered
-unfoldable pub rowsOf : List Reply → List ℕ
-rowsOf [] = []
-rowsOf (r ∷ rs) = rowsIn r ∷ rowsOf rs
+-- what a reply says was renumbered
+abbrev pub renumberingIn : Reply → Renumbering
+renumberingIn r = record { rows = rowsIn r; head = headIn r }
+
+-- and what replies say
+unfoldable pub renumberingsIn : List Reply → List Renumbering
+renumberingsIn [] = []
+renumberingsIn (r ∷ rs) = renumberingIn r ∷ renumberingsIn rs
 
 -- ---- the lines
 
@@ -76,13 +85,13 @@ linesFrom i (whole nothing ∷ items) replies = linesFrom (i + 1) items replies
 linesFrom i (whole (call q) ∷ items) [] = []
 linesFrom i (whole (call q) ∷ items) (r ∷ replies) = printedLine i r ++ linesFrom (i + 1) items replies
 
-unfoldable pub sumOf : List ℕ → ℕ
-sumOf [] = 0
-sumOf (k ∷ ks) = k + sumOf ks
+unfoldable pub totalOf : List Renumbering → ℕ
+totalOf [] = 0
+totalOf (k ∷ ks) = k .rows + totalOf ks
 
 -- header, a line to each field, and the last line with the count and the total renumbered
-unfoldable pub listing : List Item → List ℕ → List ℕ
+unfoldable pub listing : List Item → List Renumbering → List ℕ
 listing items ks =
     headerLine rows
     ++ linesFrom 1 items (repliesFrom emptyList (callsIn items) ks)
-    ++ endLine (countOf (plainRun rows emptyList (toldAll (callsIn items)) .last)) (sumOf ks)
+    ++ endLine (countOf (plainRun rows emptyList (toldAll (callsIn items)) .last)) (totalOf ks)

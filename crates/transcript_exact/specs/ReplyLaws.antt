@@ -1,4 +1,4 @@
--- What the run of a log's calls prints is what the plain list's replies print, with the rows that each call renumbered.
+-- What the run of a log's calls prints is what the plain list's replies print, with the rows that each call renumbered and their head.
 use mathlib.Core.Path.{_≡_, refl, ap, _∙_}
 use mathlib.Core.Bool.{Bool, true, false}
 use mathlib.Core.List.{List, [], _∷_}
@@ -29,7 +29,7 @@ use Rattle.transcript.specs.Transcript.{rows}
 use Rattle.transcript_exact.specs.Level.{levelIn}
 use Rattle.transcript_exact.specs.LevelLaws.{OneTree, one-grown, one-started, level-plain}
 use Rattle.transcript_exact.specs.Logged.{Logged, a-leaf, a-root, a-question, an-alike, AllLogged, none-logged, logged}
-use Rattle.transcript_exact.specs.Listing.{withRows, repliesFrom, rowsOf, sumOf}
+use Rattle.transcript_exact.specs.Listing.{withRenumbering, repliesFrom, renumberingIn, renumberingsIn, totalOf}
 use Rattle.transcript_exact.specs.ReadingLaws.{turnsFrom}
 
 -- ---- what the plain list replies
@@ -84,11 +84,11 @@ module _ (c : ℕ) (p : PlainList) (x y : ℕ) where
   unfolding plainOutcome
   alike-plain = asked-plain (plain-same _)
 
--- a reply is the plain list's, with its own rows
-agrees-rows : {r : PlainReply} {u : Reply} → Agrees r u → u ≡ withRows r (rowsIn u)
+-- a reply is the plain list's, with its own rows and head
+agrees-rows : {r : PlainReply} {u : Reply} → Agrees r u → u ≡ withRenumbering r (renumberingIn u)
 agrees-rows (refusals n) = refl
-agrees-rows (nodes n k) = refl
-agrees-rows (links k) = refl
+agrees-rows (nodes n k h) = refl
+agrees-rows (links k h) = refl
 agrees-rows (answers a) = refl
 agrees-rows (alikes b) = refl
 agrees-rows pass = refl
@@ -104,20 +104,21 @@ agrees-refused (refusals n) = refl
 
 record New (n : ℕ) (u : Reply) : Type 0 where
   count : ℕ
-  is : u ≡ node n count
+  head : ℕ
+  is : u ≡ node n count head
 
 agrees-new : {n : ℕ} {u : Reply} → Agrees (plainNode n) u → New n u
-agrees-new (nodes n k) = record { count = k; is = refl }
+agrees-new (nodes n k h) = record { count = k; head = h; is = refl }
 
 -- a call of a log, where the table stands beside the plain list and is one tree: one tree again, and what is printed is by the plain list
 record Told (f : Fast) (q : Call) (o : PlainOutcome) (u : Turn) : Type 0 where
   one : OneTree (tableIn (u .after))
-  printed : printedBy q u ≡ printed (letterOf q) (levelIn (o .after)) (withRows (o .reply) (rowsIn (u .reply)))
+  printed : printedBy q u ≡ printed (letterOf q) (levelIn (o .after)) (withRenumbering (o .reply) (renumberingIn (u .reply)))
 
 module _ {f : Fast} {p : PlainList} {stored : StoredList} {total joined : ℕ} (s : Stands rows f p stored total joined) (o : OneTree (tableIn f)) where
-  renumbers-one : {l : StoredList} {q : Call} {k : ℕ} {d : Table} → Logged q → Renumbers l (tableIn f) d k q → OneTree d
-  renumbers-one g (growth h a k e) = one-grown (numbered (s .rules) (s .fits .most)) k o
-  renumbers-one a-root (start (begins-root z) k e) = one-started (numbered (s .rules) (s .fits .most)) k z
+  renumbers-one : {l : StoredList} {q : Call} {k h : ℕ} {d : Table} → Logged q → Renumbers rows l (tableIn f) d k h q → OneTree d
+  renumbers-one g (growth a k w e) = one-grown (numbered (s .rules) (s .fits .most)) k o
+  renumbers-one a-root (start (begins-root z) k w e i) = one-started (numbered (s .rules) (s .fits .most)) k z
 
   -- by the reply, with the plain list's levels where it names a new node
   told-by : {q : Call} {r : PlainOutcome} {u : Turn} → Agrees (r .reply) (u .reply) → OneTree (tableIn (u .after))
@@ -130,7 +131,7 @@ module _ {f : Fast} {p : PlainList} {stored : StoredList} {total joined : ℕ} (
       told-by (e .exact .agrees) (rw (e .exact .kept n z) o) (rw z)
   told-growth {q} {u = u} g (one-more {p′} c) e =
       let n = agrees-new (e .exact .agrees) in
-      let i = renumbers-one g (e .exact .renumbers (countOf p) (n .count) (n .is)) in
+      let i = renumbers-one g (e .exact .renumbers (countOf p) (n .count) (n .head) (n .is)) in
       let t = e .stands in
       let l = level-plain (t .rules) (t .fits .most) i (t .count) (t .shows) (countOf p) (omega (arith, t .count)) in
       told-by (e .exact .agrees) i (rw (n .is, l))
@@ -145,15 +146,15 @@ module _ {f : Fast} {p : PlainList} {stored : StoredList} {total joined : ℕ} (
   told-step (a-question {x} {y}) = told-asked (question-plain rows p x y) refl (step-exact s (question x y))
   told-step (an-alike {x} {y}) = told-asked (alike-plain rows p x y) refl (step-exact s (alike x y))
 
-pub rows-sum : (rs : List Reply) → totalIn rs ≡ sumOf (rowsOf rs)
-unfolding totalIn sumOf rowsOf
+pub rows-sum : (rs : List Reply) → totalIn rs ≡ totalOf (renumberingsIn rs)
+unfolding totalIn totalOf renumberingsIn
 rows-sum [] = refl
 rows-sum (r ∷ rs) = ap (λ (n : ℕ). rowsIn r + n) (rows-sum rs)
 
 -- all replies
 pub turns-plain : {f : Fast} {p : PlainList} {stored : StoredList} {total joined : ℕ} → Stands rows f p stored total joined → OneTree (tableIn f) → {qs : List Call} → AllLogged qs
-    → turnsFrom f qs ≡ repliesFrom p qs (rowsOf (run f qs .replies))
-unfolding turnsFrom repliesFrom run rowsOf
+    → turnsFrom f qs ≡ repliesFrom p qs (renumberingsIn (run f qs .replies))
+unfolding turnsFrom repliesFrom run renumberingsIn
 turns-plain s o none-logged = refl
 turns-plain {f} s o (logged {q} g l) =
     let t = told-step s o g in

@@ -1,4 +1,6 @@
 // Growth of the engine's table and of the plain list side by side, and links, with an inspection after each.
+use crate::head::heads_growth;
+use crate::head::heads_link;
 use crate::random::below;
 use crate::random::next;
 use crate::shape::Kind;
@@ -108,6 +110,7 @@ fn is_growth(before: Tree, after: Tree, refusal: u16, found: Growth) -> bool {
 
 // The run after a growth; `refusal` is the plain list's, `after` its tree where it serves.
 fn after_growth(
+    fields: &[u16],
     run: Run,
     refusal: u16,
     after: Tree,
@@ -121,7 +124,7 @@ fn after_growth(
         Grown::Refused(r) => refused(run, number_of(r) == refusal, letter, x, y),
         Grown::Node(g) => {
             let state = g.state;
-            let equal = is_growth(before, after, refusal, g);
+            let equal = is_growth(before, after, refusal, g) && heads_growth(fields, g);
             served(run, state, after, g.rows as u64, 1, equal, letter, x, y)
         }
     }
@@ -138,7 +141,16 @@ fn grow_first(
     let state = run.state;
     let tree = run.tree;
     let found = add_first(fields, numbers, levels, ancestors, scratch, state);
-    after_growth(run, full_refusal(tree), with_first(tree), found, b'F', 0, 0)
+    after_growth(
+        fields,
+        run,
+        full_refusal(tree),
+        with_first(tree),
+        found,
+        b'F',
+        0,
+        0,
+    )
 }
 
 fn grow_leaf(
@@ -155,6 +167,7 @@ fn grow_leaf(
     let tree = run.tree;
     let found = add_leaf(fields, numbers, levels, ancestors, scratch, state, x, y);
     after_growth(
+        fields,
         run,
         leaf_refusal(tree, x, y),
         with_leaf(tree, x, y),
@@ -176,7 +189,16 @@ fn grow_root(
     let state = run.state;
     let tree = run.tree;
     let found = add_root(fields, numbers, levels, ancestors, scratch, state);
-    after_growth(run, full_refusal(tree), with_root(tree), found, b'T', 0, 0)
+    after_growth(
+        fields,
+        run,
+        full_refusal(tree),
+        with_root(tree),
+        found,
+        b'T',
+        0,
+        0,
+    )
 }
 
 fn grow_over(
@@ -192,6 +214,7 @@ fn grow_over(
     let tree = run.tree;
     let found = add_root_over(fields, numbers, levels, ancestors, scratch, state, x);
     after_growth(
+        fields,
         run,
         over_refusal(tree, x),
         with_over(tree, x),
@@ -243,24 +266,23 @@ fn grow(
 }
 
 // The run after a link; `refusal` is the plain list's, `after` its trees where it serves.
-fn after_link(run: Run, refusal: u16, after: Tree, found: Linked, x: u16, v: u16) -> Run {
+fn after_link(
+    fields: &[u16],
+    run: Run,
+    refusal: u16,
+    after: Tree,
+    found: Linked,
+    x: u16,
+    v: u16,
+) -> Run {
     let state = run.state;
     let before = run.tree;
     match found {
         Linked::Refused(r) => refused(run, number_of(r) == refusal, b'J', x, v),
         Linked::Under(l) => {
             let joined = members_in(before, x);
-            served(
-                run,
-                state,
-                after,
-                l.rows as u64,
-                joined,
-                refusal == 0,
-                b'J',
-                x,
-                v,
-            )
+            let equal = refusal == 0 && heads_link(fields, v, l);
+            served(run, state, after, l.rows as u64, joined, equal, b'J', x, v)
         }
     }
 }
@@ -280,6 +302,7 @@ fn link_under(
     let tree = run.tree;
     let found = link(fields, numbers, levels, ancestors, scratch, state, x, v, y);
     after_link(
+        fields,
         run,
         link_refusal(tree, x, v, y),
         with_link(tree, x, v, y),

@@ -19,6 +19,7 @@ use table::state::State;
 
 mod compare;
 mod grow;
+mod head;
 mod limits;
 mod naive;
 mod random;

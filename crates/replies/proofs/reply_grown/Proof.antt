@@ -6,8 +6,8 @@ use Rattle.replies.proofs.reply_grown.Tie as tie
 enum-known-grown : tie.Need-enum-known-grown
 enum-known-grown c = search needs
 
-put-three-requires : tie.Need-put-three-requires
-put-three-requires c κs = search needs
+put-four-requires : tie.Need-put-four-requires
+put-four-requires c κs = search needs
 
 enum-known-grown-2 : tie.Need-enum-known-grown-2
 enum-known-grown-2 c = search needs
@@ -19,7 +19,7 @@ same-length : tie.Need-same-length
 same-length c = search needs
 
 returns : tie.Need-returns
-returns c = rw (c .before .before .before .before .before .before .grown .given .1, c .before .before .put-three .ensures)
+returns c = rw (c .before .before .before .before .before .before .grown .given .1, c .before .before .put-four .ensures)
 
 returns-2 : tie.Need-returns-2
 returns-2 c = rw (c .before .before .grown2 .given .1, c .number-of .ensures)
@@ -29,7 +29,7 @@ reply-grown-spec =
     tie.close
     (tie.spec
     enum-known-grown
-    put-three-requires
+    put-four-requires
     enum-known-grown-2
     number-of-requires
     same-length

@@ -1,4 +1,4 @@
--- `reply_linked`: the rows renumbered, or a refusal's number.
+-- `reply_linked`: rows and head, or a refusal's number.
 use borrow.Author.Needs.{needs}
 use Rattle.replies.proofs.reply_linked.Statement.{statement}
 use Rattle.replies.proofs.reply_linked.Tie as tie
@@ -6,8 +6,11 @@ use Rattle.replies.proofs.reply_linked.Tie as tie
 enum-known-linked : tie.Need-enum-known-linked
 enum-known-linked c = search needs
 
-put-wide-requires : tie.Need-put-wide-requires
-put-wide-requires c κs = search needs
+wide-requires : tie.Need-wide-requires
+wide-requires c κs = search needs
+
+put-two-requires : tie.Need-put-two-requires
+put-two-requires c κs = search needs
 
 enum-known-linked-2 : tie.Need-enum-known-linked-2
 enum-known-linked-2 c = search needs
@@ -19,7 +22,7 @@ same-length : tie.Need-same-length
 same-length c = search needs
 
 returns : tie.Need-returns
-returns c = rw (c .before .before .before .before .before .linked .given .1, c .before .before .put-wide .ensures)
+returns c = rw (c .before .before .before .before .before .before .linked .given .1, c .before .before .put-two .ensures, c .before .before .before .wide .ensures)
 
 returns-2 : tie.Need-returns-2
 returns-2 c = rw (c .before .before .linked2 .given .1, c .number-of .ensures)
@@ -29,7 +32,8 @@ reply-linked-spec =
     tie.close
     (tie.spec
     enum-known-linked
-    put-wide-requires
+    wide-requires
+    put-two-requires
     enum-known-linked-2
     number-of-requires
     same-length

@@ -1,5 +1,5 @@
 -- `check_link`: the refusals in their order.
-use Rattle.link.specs.CheckLaws.{check-misfit, check-scratch, check-x, check-v, check-label, check-count, check-lost, check-not-root, check-other-lost, check-same, check-inspect, check-serve}
+use Rattle.link.specs.CheckLaws.{check-misfit, check-scratch, check-x, check-v, check-label, check-count, check-lost, check-not-root, check-other-lost, check-same, check-inspect, trees-are, check-serve}
 use Rattle.link.specs.declared.check.Checked.the-variants.{Serve}
 use Rattle.growth.specs.PlanLaws.{root-read}
 use Rattle.inspect.specs.InspectionLaws.{told-capacity}
@@ -88,7 +88,7 @@ returns-11 c = let a = c .before .before .before .before .before .before .before
 returns-12 : tie.Need-returns-12
 returns-12 c = let a = c .before .before .before .before .before .before .before .before .before .before .before .before .before .before .before .before .before .before .before .before .before .before .before .before .before .before .args in
     let r = root-read (a .fields .now) (a .ancestors .now) (a .state .count) (a .x) (c .before .before .before .before .before .before .before .before .tree-of .ensures) (c .before .before .before .before .before .before .before .root-of .ensures) in
-    ap Serve (c .before .before .before .before .before .before .before .before .tree-of .ensures) ∙ check-serve (partsOf (a .fields .now) (a .numbers .now) (a .levels .now) (a .ancestors .now)) _ (a .state) (a .x) (a .v) (a .door) _ (sym (c .before .before .before .before .before .before .before .before .before .before .before .before .before .before .before .before .before .before .before .cap .given .1) ∙ c .before .before .before .before .before .before .before .before .before .before .before .before .before .before .before .before .before .before .before .before .before .capacity .ensures) (c .before .before .before .before .before .before .before .before .before .before .before .before .before .before .before .before .before .if1 .left) (c .before .before .before .before .before .before .before .before .before .before .before .before .before .before .before .if2 .left) (c .before .before .before .before .before .before .before .before .before .before .before .before .before .if3 .left) (sym (c .before .before .before .before .before .before .before .before .before .before .before .before .is-label .ensures) ∙ not-false _ (c .before .before .before .before .before .before .before .before .before .before .before .if4 .left)) (sym (c .before .before .before .before .before .before .before .before .before .before .is-standing .ensures) ∙ not-false _ (c .before .before .before .before .before .before .before .before .before .if5 .left)) (λ z. c .before .before .before .before .before .before .if6 .left (r ∙ z)) (sym r ∙ c .before .before .before .before .before .if7 .left) (λ z. c .before .before .before .if8 .left (c .before .before .before .before .tree-of2 .ensures ∙ z)) (λ z. c .before .before .if9 .left (c .before .before .before .before .tree-of2 .ensures ∙ z ∙ sym (c .before .before .before .before .before .before .before .before .tree-of .ensures))) (sym (c .before .is-ours .ensures) ∙ not-false _ (c .if10 .left))
+    ap Serve (trees-are (c .before .before .before .before .before .before .before .before .tree-of .ensures) (c .before .before .before .before .tree-of2 .ensures)) ∙ check-serve (partsOf (a .fields .now) (a .numbers .now) (a .levels .now) (a .ancestors .now)) _ (a .state) (a .x) (a .v) (a .door) _ (sym (c .before .before .before .before .before .before .before .before .before .before .before .before .before .before .before .before .before .before .before .cap .given .1) ∙ c .before .before .before .before .before .before .before .before .before .before .before .before .before .before .before .before .before .before .before .before .before .capacity .ensures) (c .before .before .before .before .before .before .before .before .before .before .before .before .before .before .before .before .before .if1 .left) (c .before .before .before .before .before .before .before .before .before .before .before .before .before .before .before .if2 .left) (c .before .before .before .before .before .before .before .before .before .before .before .before .before .if3 .left) (sym (c .before .before .before .before .before .before .before .before .before .before .before .before .is-label .ensures) ∙ not-false _ (c .before .before .before .before .before .before .before .before .before .before .before .if4 .left)) (sym (c .before .before .before .before .before .before .before .before .before .before .is-standing .ensures) ∙ not-false _ (c .before .before .before .before .before .before .before .before .before .if5 .left)) (λ z. c .before .before .before .before .before .before .if6 .left (r ∙ z)) (sym r ∙ c .before .before .before .before .before .if7 .left) (λ z. c .before .before .before .if8 .left (c .before .before .before .before .tree-of2 .ensures ∙ z)) (λ z. c .before .before .if9 .left (c .before .before .before .before .tree-of2 .ensures ∙ z ∙ sym (c .before .before .before .before .before .before .before .before .tree-of .ensures))) (sym (c .before .is-ours .ensures) ∙ not-false _ (c .if10 .left))
 
 pub check-link-spec : {M : Type 1} → statement M
 check-link-spec =

@@ -1,5 +1,5 @@
--- `grown`: a refusal's number, or the new node, its level and the rows renumbered.
-use Rattle.transcript.specs.PrintedLaws.{three-printed}
+-- `grown`: a refusal's number, or the new node, its level, the rows renumbered and their head.
+use Rattle.transcript.specs.PrintedLaws.{four-printed}
 use borrow.Author.Needs.{needs}
 use Rattle.transcript.proofs.reply.grown.Statement.{statement}
 use Rattle.transcript.proofs.reply.grown.Tie as tie
@@ -25,6 +25,9 @@ level-requires c κs = search needs
 value-requires-2 : tie.Need-value-requires-2
 value-requires-2 c κs = search needs
 
+value-requires-3 : tie.Need-value-requires-3
+value-requires-3 c κs = search needs
+
 first-of-requires : tie.Need-first-of-requires
 first-of-requires c κs = search needs
 
@@ -32,11 +35,12 @@ returns : tie.Need-returns
 returns c = rw (c .before .before .before .g .given .1, c .refused .ensures, c .before .number-of .ensures)
 
 returns-2 : tie.Need-returns-2
-returns-2 c = rw (c .before .before .before .before .before .g2 .given .1)
-    (three-printed _ (c .first-of .ensures)
-    (record { same = c .before .before .before .value .ensures; fits = record { sfits = c .before .before .before .value .ok } })
-    (record { same = c .before .before .level .ensures; fits = record { sfits = c .before .before .level .ok } })
-    (record { same = c .before .value2 .ensures; fits = record { sfits = c .before .value2 .ok } }))
+returns-2 c = rw (c .before .before .before .before .before .before .g2 .given .1)
+    (four-printed _ (c .first-of .ensures)
+    (record { same = c .before .before .before .before .value .ensures; fits = record { sfits = c .before .before .before .before .value .ok } })
+    (record { same = c .before .before .before .level .ensures; fits = record { sfits = c .before .before .before .level .ok } })
+    (record { same = c .before .before .value2 .ensures; fits = record { sfits = c .before .before .value2 .ok } })
+    (record { same = c .before .value3 .ensures; fits = record { sfits = c .before .value3 .ok } }))
 
 pub grown-spec : {M : Type 1} → statement M
 grown-spec =
@@ -49,6 +53,7 @@ grown-spec =
     value-requires
     level-requires
     value-requires-2
+    value-requires-3
     first-of-requires
     returns
     returns-2)
