@@ -1,19 +1,17 @@
 -- Growth: the outcome and all parts afterwards, of a first node, a new leaf and a new root, on every table.
-use mathlib.Core.List.{List}
 use Prim.Native.Nat.{ℕ}
 use lib.IntN.{pos}
 use Rattle.table.specs.declared.state.State.{State}
 use Rattle.table.specs.Parts.{Parts, partsOf}
-use Rattle.table.specs.Layout.{labelPlace, rootPlace}
-use Rattle.layer.specs.Write.{withField}
 use Rattle.table.specs.Parts.{withLevel}
-use Rattle.growth.specs.declared.plan.Plan.{Plan}
-use Rattle.growth.specs.declared.plan.Planned.{Planned}
-use Rattle.growth.specs.declared.plan.Planned.the-variants.{Grow, Start, Refuse}
+use Rattle.growth_plan.specs.declared.row.Plan.{Plan}
+use Rattle.growth_plan.specs.declared.row.Planned.{Planned}
+use Rattle.growth_plan.specs.declared.row.Planned.the-variants.{Grow, Start, Refuse}
 use Rattle.renumber.specs.Count.{oneMore}
-use Rattle.join.specs.Lone.{loneFields, loneNumbers, loneEntries}
-use Rattle.growth.specs.Store.{Stored, planStored}
-use Rattle.growth.specs.Plan.{firstPlan, leafPlan, overPlan, rootPlan}
+use Rattle.join.specs.Lone.{loneNumbers, loneEntries}
+use Rattle.growth_store.specs.Store.{Stored, planStored}
+use Rattle.growth_store.specs.Start.{startedFields}
+use Rattle.growth_plan.specs.Plan.{firstPlan, leafPlan, overPlan, rootPlan}
 use Rattle.growth.specs.Outcome.{Outcome, refused, node}
 
 -- the outcome, and the parts afterwards
@@ -31,10 +29,6 @@ nodeAt row rows head = node (oneMore row) row rows head
 -- a growth that was served: the head is the one of its seat
 unfoldable pub served : Plan → Stored → Result
 served g s = result (s .parts) (nodeAt (g .seat .leaf .row) (s .given) (g .seat .head .row))
-
--- the fields with a first node n: a row that stands alone, of label 0, its own root
-unfoldable pub startedFields : List ℕ → ℕ → List ℕ
-startedFields f n = withField (withField (loneFields f n) n labelPlace 0) n rootPlace n
 
 -- a first node that was served: one row is numbered, and it heads itself
 unfoldable pub started : Parts → ℕ → Result

@@ -21,12 +21,13 @@ use Rattle.growth_laws.specs.GrowthKeepsRules.{start-keeps-rules, start-plain}
 use Rattle.join_laws.specs.Lag.{lag, worth, perJoin}
 use Rattle.join_laws.specs.LoneLaws.{parted-lag}
 use Rattle.growth_laws.specs.PlainStep.{PlainStart}
-use Rattle.growth.specs.declared.plan.Planned.the-variants.{Start}
+use Rattle.growth_plan.specs.declared.row.Planned.the-variants.{Start}
 use Rattle.join.specs.Lone.{loneNumbers, loneEntries}
-use Rattle.growth.specs.Plan.{rootPlan}
-use Rattle.growth.specs.PlanLaws.{first-row, root-first}
+use Rattle.growth_plan.specs.Plan.{rootPlan}
+use Rattle.growth_plan.specs.PlanLaws.{first-row, root-first}
 use Rattle.growth.specs.Outcome.{node}
-use Rattle.growth.specs.Growth.{Result, startedFields, started, grownBy, addFirst, addRoot}
+use Rattle.growth.specs.Growth.{Result, started, grownBy, addFirst, addRoot}
+use Rattle.growth_store.specs.Start.{startedFields}
 use Rattle.renumber_laws.specs.Column.{put, put-other}
 use Rattle.renumber_exact.specs.Columns.{RowView, row-set}
 use Rattle.join_exact.specs.LoneExact.{own, fields, lone-long, lone-in, kept-in}

@@ -38,11 +38,11 @@ use Rattle.growth_laws.specs.PlainStep.{PlainStep}
 use Rattle.join_laws.specs.Renumbered.{rows}
 use Rattle.join_laws.specs.StartOrder.{StartOrder}
 use Rattle.join_laws.specs.StartOrderLaws.{order-after}
-use Rattle.growth.specs.declared.plan.Planned.{Planned}
-use Rattle.growth.specs.declared.plan.Planned.the-variants.{Grow}
-use Rattle.growth.specs.Store.{Stored}
-use Rattle.growth.specs.Plan.{leafPlan, overPlan, rootPlan, rootOver}
-use Rattle.growth.specs.PlanLaws.{leaf-row, above-row, over-row, root-row}
+use Rattle.growth_plan.specs.declared.row.Planned.{Planned}
+use Rattle.growth_plan.specs.declared.row.Planned.the-variants.{Grow}
+use Rattle.growth_store.specs.Store.{Stored}
+use Rattle.growth_plan.specs.Plan.{leafPlan, overPlan, rootPlan, rootOver}
+use Rattle.growth_plan.specs.PlanLaws.{leaf-row, above-row, over-row, root-row}
 use Rattle.growth.specs.Outcome.{node}
 use Rattle.growth.specs.Growth.{Result, result, nodeAt, served, grownBy, addLeaf, addOver, addRoot}
 use Rattle.renumber_exact.specs.SizeWalkExact.{more-one}

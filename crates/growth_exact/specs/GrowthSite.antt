@@ -30,12 +30,12 @@ use Rattle.growth_laws.specs.GrowthFrameLaws.{grown-frame}
 use Rattle.growth_laws.specs.GrowthKeepsRules.{growth-keeps-rules}
 use Rattle.join_laws.specs.LoneLaws.{parted-numbered}
 use Rattle.join_laws.specs.Renumbered.{rows}
-use Rattle.growth.specs.declared.plan.Planned.the-variants.{Grow}
+use Rattle.growth_plan.specs.declared.row.Planned.the-variants.{Grow}
 use Rattle.layer.specs.Checked.{isRow}
 use Rattle.layer.specs.CheckedLaws.{says-row}
-use Rattle.growth.specs.declared.level.Level.the-variants.{At}
-use Rattle.growth.specs.Level.{levelFrom}
-use Rattle.growth.specs.PlannedRow.{plannedRow}
+use Rattle.growth_plan.specs.declared.level.Level.the-variants.{At}
+use Rattle.growth_plan.specs.Level.{levelFrom}
+use Rattle.growth_plan.specs.PlannedRow.{plannedRow}
 use Rattle.renumber_laws.specs.Column.{put}
 use Rattle.join_exact.specs.Site.{Site}
 use Rattle.join_exact.specs.SeatExact.{h}

@@ -22,7 +22,7 @@ use Rattle.layer.specs.Row.{fieldAt, rowOf}
 use Rattle.layer.specs.Layer.{layerOf}
 use Rattle.layer.specs.Write.{withField}
 use Rattle.table.specs.Layout.{labelPlace, rootPlace}
-use Rattle.growth.specs.Store.{marked}
+use Rattle.growth_store.specs.Store.{marked}
 use Rattle.renumber_laws.specs.Column.{put, put-same, put-other}
 use Rattle.renumber_exact.specs.Columns.{Holds, holds-set, set-same, set-other, set-link}
 

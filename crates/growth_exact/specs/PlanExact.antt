@@ -18,11 +18,11 @@ use Rattle.renumber.specs.NumberWalk.{Written, written}
 use Rattle.join_laws.specs.JoinStep.{JoinStep}
 use Rattle.join_laws.specs.Renumbered.{rows}
 use Rattle.growth_laws.specs.GrowthFrame.{Untouched}
-use Rattle.growth.specs.declared.plan.Plan.{Plan}
-use Rattle.growth.specs.declared.plan.Planned.the-variants.{Grow}
-use Rattle.growth.specs.PlannedRow.{plannedRow}
-use Rattle.growth.specs.PlannedRowLaws.{on-seat}
-use Rattle.growth.specs.Store.{Stored, stored, marked, withMarks, planStored}
+use Rattle.growth_plan.specs.declared.row.Plan.{Plan}
+use Rattle.growth_plan.specs.declared.row.Planned.the-variants.{Grow}
+use Rattle.growth_plan.specs.PlannedRow.{plannedRow}
+use Rattle.growth_plan.specs.PlannedRowLaws.{on-seat}
+use Rattle.growth_store.specs.Store.{Stored, stored, marked, withMarks, planStored}
 use Rattle.renumber_laws.specs.Column.{put, put-other}
 use Rattle.renumber_exact.specs.Lent.{Long}
 use Rattle.renumber_exact.specs.Columns.{Holds, put-at}

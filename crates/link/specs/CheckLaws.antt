@@ -14,7 +14,7 @@ use Rattle.table.specs.State.{isStanding}
 use Rattle.table.specs.Table.{tableOf}
 use Rattle.table.specs.Tree.{treeAt, rootAt}
 use Rattle.inspect.specs.Inspects.{inspects}
-use Rattle.growth.specs.Plan.{isLabel}
+use Rattle.growth_plan.specs.Plan.{isLabel}
 use Rattle.link.specs.declared.check.Checked.the-variants.{Serve, Refuse}
 use Rattle.link.specs.Link.{trees, linkWithin, linkChecked}
 

@@ -3,7 +3,7 @@
 use mathlib.Core.Path.{_≡_}
 use mathlib.Core.Bool.{Bool, not}
 use mathlib.Core.List.{List}
-use Prim.Native.Nat.{ℕ, _*_}
+use Prim.Native.Nat.{ℕ}
 use lib.Dec.{eqb, ltb}
 use lib.ListN.{length}
 use Rattle.laws.specs.Test.{pick}
@@ -11,22 +11,20 @@ use Rattle.tree_laws.specs.Ancestor.{none}
 use Rattle.table.specs.declared.refusal.Refusal.{Refusal}
 use Rattle.table.specs.declared.refusal.Refusal.the-variants.{UnknownNode, Misfit, Corrupt, BadLabel, NotRoot, SameTree}
 use Rattle.table.specs.declared.state.State.{State}
-use Rattle.table.specs.Parts.{Parts, levelAt}
+use Rattle.table.specs.Parts.{Parts}
 use Rattle.table.specs.Capacity.{capacityOf}
 use Rattle.table.specs.State.{isStanding}
 use Rattle.table.specs.Table.{tableOf}
 use Rattle.table.specs.Tree.{treeAt, rootAt}
 use Rattle.inspect.specs.Inspects.{inspects}
-use Rattle.growth.specs.Store.{Stored}
+use Rattle.growth_store.specs.Store.{Stored}
 use Rattle.table.specs.Capacity.{onFit}
-use Rattle.growth.specs.Plan.{isLabel}
+use Rattle.growth_plan.specs.Plan.{isLabel}
 use Rattle.link.specs.declared.Linked.{Linked}
 use Rattle.link.specs.declared.check.Checked.{Checked}
 use Rattle.link.specs.declared.check.Trees.{Trees}
 use Rattle.link.specs.declared.check.Checked.the-variants.{Serve, Refuse}
-use Rattle.link.specs.Sort.{Sorted, cellAt, sortedRows}
-use Rattle.link.specs.Detach.{detached}
-use Rattle.link.specs.Walk.{walking, joining, joinWalk}
+use Rattle.link_store.specs.JoinedTree.{joinedTree}
 use Rattle.link.specs.Outcome.{Outcome, refusal, refused, linked, outcomeOf}
 
 -- the outcome, and the parts afterwards
@@ -63,12 +61,6 @@ linkWithin p c scratch s x v door =
 -- with a scratch of this length
 unfoldable pub linkChecked : Parts → ℕ → State → ℕ → ℕ → ℕ → Checked
 linkChecked p scratch s x v door = onFit (capacityOf p) (λ c. linkWithin p c scratch s x v door) (Refuse Misfit)
-
--- the rows of the tree sorted, detached, and joined in their order; two turns for each row in use are enough
-unfoldable pub joinedTree : Parts → ℕ → ℕ → ℕ → ℕ → ℕ → ℕ → Stored
-joinedTree p c n tree x v door =
-    let s : Sorted = sortedRows c (p .levels) (p .ancestors) n tree (levelAt (p .levels) x) in
-    joinWalk (2 * n) (cellAt (s .heads)) (cellAt (s .links)) n x door (walking (detached p n tree x v) (joining (cellAt (s .heads) 0) 0 0))
 
 unfoldable pub servedBy : ℕ → Stored → Result
 servedBy head o = result (o .parts) (linked (o .given) head)

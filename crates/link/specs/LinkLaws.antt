@@ -2,7 +2,7 @@
 use mathlib.Core.Path.{_≡_, refl, sym, _∙_}
 use mathlib.Core.Bool.{Bool, true, false}
 use mathlib.Core.List.{List}
-use Prim.Native.Nat.{ℕ, _*_, _≤_}
+use Prim.Native.Nat.{ℕ, _≤_}
 use native.Mathlib.Omega.{arith}
 use lib.Dec.{eqb, ltb}
 use lib.ListN.{length}
@@ -14,30 +14,19 @@ use Rattle.table.specs.declared.refusal.Refusal.the-variants.{UnknownNode, Misf
 use Rattle.table.specs.declared.state.State.{State}
 use Rattle.table.specs.Capacity.{Fits, capacityOf, nodeLimit}
 use Rattle.table.specs.CapacityLaws.{fits-capacity}
-use Rattle.table.specs.Parts.{Parts, partsOf, levelAt}
+use Rattle.table.specs.Parts.{Parts}
 use Rattle.table.specs.State.{isStanding}
 use Rattle.table.specs.StateLaws.{says-standing}
-use Rattle.renumber.specs.NumberWalk.{written}
 use Rattle.layer.specs.Checked.{Holds}
-use Rattle.growth.specs.Store.{Stored, stored}
+use Rattle.growth_store.specs.Store.{stored}
 use Rattle.table.specs.Capacity.{onFit}
-use Rattle.growth.specs.Plan.{isLabel}
+use Rattle.growth_plan.specs.Plan.{isLabel}
 use Rattle.link.specs.declared.Linked.the-variants.{Under, Refused}
 use Rattle.link.specs.declared.check.Checked.{Checked}
 use Rattle.link.specs.declared.check.Trees.{Trees}
 use Rattle.link.specs.declared.check.Checked.the-variants.{Serve, Refuse}
-use Rattle.link.specs.Detach.{detachedFrom, detached}
-use Rattle.link.specs.Link.{provided, linkWithin, linkChecked, joinedTree, servedBy, linkedBy, linkBy, LinkCall}
-use Rattle.link.specs.Sort.{cellAt, sorted, sortedRows}
-use Rattle.link.specs.Walk.{walking, joining, joinWalk}
-
-pub tree-joined : (p : Parts) (c n tree x v door : ℕ) (heads links f m a : List ℕ) (o : Stored)
-    → sorted heads links ≡ sortedRows c (p .levels) (p .ancestors) n tree (levelAt (p .levels) x)
-    → written f m a ≡ detachedFrom (written (p .fields) (p .numbers) (p .ancestors)) n tree x v
-    → o ≡ joinWalk (2 * n) (cellAt heads) (cellAt links) n x door (walking (partsOf f m (p .levels) a) (joining (cellAt heads 0) 0 0))
-    → o ≡ joinedTree p c n tree x v door
-unfolding joinedTree detached
-tree-joined p c n tree x v door heads links f m a o e h i = rw (← e, ← h) i
+use Rattle.link.specs.Link.{provided, linkWithin, linkChecked, servedBy, linkedBy, linkBy, LinkCall}
+use Rattle.link_store.specs.JoinedTree.{joinedTree}
 
 -- What serving tells
 

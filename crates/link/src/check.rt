@@ -1,5 +1,5 @@
 // What a link decides before its first store: its refusals in their order.
-use growth::plan_leaf::is_label;
+use growth_plan::leaf::is_label;
 use inspect::is_ours;
 use layer::layout::NONE;
 use table::capacity::Fit;

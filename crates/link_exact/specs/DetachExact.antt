@@ -37,8 +37,8 @@ use Rattle.layer_laws.specs.TreeEntry.{entry-first}
 use Rattle.link_laws.specs.Link.{target, Linkable}
 use Rattle.link_exact.specs.LinkExact.{Detached}
 use Rattle.renumber.specs.NumberWalk.{Written, written}
-use Rattle.link.specs.DetachLaws.{other-parted, tree-parted}
-use Rattle.link.specs.Detach.{keptParent, keptParents, turnedLine, lonely, partedRow, partedRows, turnedFields, detachedFrom, detached}
+use Rattle.link_store.specs.DetachLaws.{other-parted, tree-parted}
+use Rattle.link_store.specs.Detach.{keptParent, keptParents, turnedLine, lonely, partedRow, partedRows, turnedFields, detachedFrom, detached}
 
 -- Stored parents kept as roots
 

@@ -15,7 +15,7 @@ use Rattle.table.specs.PlainTree.{root}
 use Rattle.table.specs.Rules.{Rules, labelLimit}
 use Rattle.table.specs.Table.{Table, tableOf}
 use Rattle.layer.specs.StoredTree.{first}
-use Rattle.growth.specs.Plan.{isLabel}
+use Rattle.growth_plan.specs.Plan.{isLabel}
 use Rattle.link_laws.specs.LinkFrame.{LinkFrame}
 use Rattle.link.specs.Outcome.{refused, linked}
 use Rattle.link.specs.Link.{Result, result, linkBy}

@@ -32,15 +32,15 @@ use Rattle.growth_laws.specs.GrowthFrame.{Untouched}
 use Rattle.growth_laws.specs.GrowthFrameLaws.{untouched-same, untouched-trans}
 use Rattle.link_laws.specs.Joinings.{Marked, Joinings, done, next}
 use Rattle.link_laws.specs.JoiningsLaws.{Before}
-use Rattle.growth.specs.declared.level.Level.the-variants.{At}
-use Rattle.growth.specs.Level.{levelFrom}
-use Rattle.growth.specs.Store.{stored}
+use Rattle.growth_plan.specs.declared.level.Level.the-variants.{At}
+use Rattle.growth_plan.specs.Level.{levelFrom}
+use Rattle.growth_store.specs.Store.{stored}
 use Rattle.renumber_laws.specs.Column.{put-other}
 use Rattle.join_exact.specs.Site.{Site}
 use Rattle.join_exact.specs.SeatExact.{h}
 use Rattle.growth_exact.specs.PlanExact.{layerParts, long-parts, row-planned, joinedParts, joinedTable, plan-stored, plan-fits, plan-step, mark-label, mark-level, kept-label, kept-level, plan-roots, plan-unused}
 use Rattle.growth_exact.specs.GrowthSite.{good-row}
-use Rattle.link.specs.JoinRow.{plannedStored, joinedUnder, joinRow, joinAll}
+use Rattle.link_store.specs.JoinRow.{plannedStored, joinedUnder, joinRow, joinAll}
 
 -- the rows of the list wait, each alone, with its target in its root field
 pub record Waits (c : ℕ) (p : Parts) (n : ℕ) (target own : ℕ → ℕ) (zs : List ℕ) : Type 0 where

@@ -29,7 +29,7 @@ use Rattle.link_laws.specs.LinkFrame.{LinkFrame}
 use Rattle.link_laws.specs.LinkFrameLaws.{link-elsewhere}
 use Rattle.link_laws.specs.Order.{isOfTree, Order}
 use Rattle.link_laws.specs.OrderLaws.{linkOrder, link-ordered, order-once, order-before, some, in-x}
-use Rattle.link.specs.JoinRow.{joinAll}
+use Rattle.link_store.specs.JoinRow.{joinAll}
 use Rattle.link_exact.specs.JoinsExact.{Waits, Joined, joins-exact}
 
 -- p₁ holds p with the rows of the tree of x standing alone, each with its target in its root field

@@ -29,7 +29,7 @@ use Rattle.table_laws.specs.TreeTests.{tree-is, root-is, same-tree, tree-same}
 use Rattle.inspect_exact.specs.Exact.{inspect-exact}
 use Rattle.inspect.specs.Inspects.{inspects}
 use Rattle.join_laws.specs.Lag.{lag, worth, perJoin}
-use Rattle.growth.specs.Plan.{isLabel}
+use Rattle.growth_plan.specs.Plan.{isLabel}
 use Rattle.link_laws.specs.Link.{Linkable, Linked, PlainLink}
 use Rattle.link_laws.specs.LinkFrame.{LinkFrame}
 use Rattle.link_laws.specs.LinkLaws.{link-keeps-rules, link-plain, link-pays}
@@ -39,7 +39,8 @@ use Rattle.link.specs.declared.check.Trees.{Trees}
 use Rattle.link.specs.declared.check.Checked.the-variants.{Serve, Refuse}
 use Rattle.link.specs.CheckLaws.{check-scratch, check-x, check-v, check-label, check-not-root, check-same, check-inspect, trees-are, check-serve}
 use Rattle.link.specs.Outcome.{refusal, refused, linked as treeLinked}
-use Rattle.link.specs.Link.{Result, result, trees, provided, linkWithin, linkChecked, joinedTree, servedBy, linkedBy, linkBy}
+use Rattle.link.specs.Link.{Result, result, trees, provided, linkWithin, linkChecked, servedBy, linkedBy, linkBy}
+use Rattle.link_store.specs.JoinedTree.{joinedTree}
 use Rattle.link_exact.specs.TreeJoined.{after, renumbered, tree-linked, tree-fits, tree-frame, tree-joined}
 
 -- a link that was served, told by its outcome

@@ -29,7 +29,7 @@ use Rattle.layer_laws.specs.Numbered.{shape, InTree}
 use Rattle.table_laws.specs.LevelBounds.{level-depth}
 use Rattle.layer_laws.specs.TreeEntry.{entry-first}
 use Rattle.renumber_laws.specs.Column.{put, put-same, put-other}
-use Rattle.link.specs.Sort.{depthBelow, cellAt, Sorted, sorted, putFront, placedRow, placedRows, sortedRows}
+use Rattle.link_store.specs.Sort.{depthBelow, cellAt, Sorted, sorted, putFront, placedRow, placedRows, sortedRows}
 use Rattle.link_laws.specs.Buckets.{Buckets, placed, sorted as sortedTo, sorted-levels}
 use Rattle.link_laws.specs.Levels.{levelOf, level-of}
 use Rattle.link_laws.specs.Link.{Linkable}

@@ -10,18 +10,18 @@ use Rattle.table.specs.Capacity.{Fits, nodeLimit}
 use Rattle.table.specs.Table.{Table, tableOf}
 use Rattle.layer.specs.StoredTree.{first}
 use Rattle.table.specs.Rules.{Rules}
-use Rattle.growth.specs.Store.{stored}
+use Rattle.growth_store.specs.Store.{stored}
 use Rattle.link_laws.specs.Levels.{levelsFrom}
 use Rattle.link_laws.specs.Link.{Linkable, Linked}
 use Rattle.link_laws.specs.LinkFrame.{LinkFrame}
 use Rattle.link_laws.specs.LinkLaws.{link-rows}
 use Rattle.link_laws.specs.Order.{isOfTree, treeRows}
 use Rattle.link_laws.specs.OrderLaws.{linkOrder, depthUnder, link-ordered, order-length}
-use Rattle.link.specs.Detach.{detached}
-use Rattle.link.specs.JoinRow.{joinAll}
-use Rattle.link.specs.Link.{joinedTree}
-use Rattle.link.specs.Sort.{cellAt, sortedRows}
-use Rattle.link.specs.Walk.{within32, walking, joining, joinWalk}
+use Rattle.link_store.specs.Detach.{detached}
+use Rattle.link_store.specs.JoinRow.{joinAll}
+use Rattle.link_store.specs.JoinedTree.{joinedTree}
+use Rattle.link_store.specs.Sort.{cellAt, sortedRows}
+use Rattle.link_store.specs.Walk.{within32, walking, joining, joinWalk}
 use Rattle.link_exact.specs.DetachExact.{detached-is}
 use Rattle.link_exact.specs.LinkExact.{link-exact, link-fits, framed}
 use Rattle.link_exact.specs.SortExact.{tree-lists}

@@ -15,10 +15,10 @@ use Rattle.table.specs.Refusal.{numberOf}
 use Rattle.table.specs.PlainTree.{plain, root as rootOf}
 use Rattle.table.specs.Rules.{labelLimit}
 use Rattle.table_laws.specs.TreeTests.{root-is}
-use Rattle.growth.specs.declared.plan.Planned.the-variants.{Refuse}
-use Rattle.growth.specs.Plan.{firstPlan, leafPlan, overPlan, rootPlan}
-use Rattle.growth.specs.PlanLaws.{leaf-scratch, leaf-unknown, leaf-label, leaf-full, first-scratch, first-full, root-scratch, root-full}
-use Rattle.growth.specs.PlanLaws.{over-scratch, over-unknown, over-other, over-full}
+use Rattle.growth_plan.specs.declared.row.Planned.the-variants.{Refuse}
+use Rattle.growth_plan.specs.Plan.{firstPlan, leafPlan, overPlan, rootPlan}
+use Rattle.growth_plan.specs.PlanLaws.{leaf-scratch, leaf-unknown, leaf-label, leaf-full, first-scratch, first-full, root-scratch, root-full}
+use Rattle.growth_plan.specs.PlanLaws.{over-scratch, over-unknown, over-other, over-full}
 use Rattle.growth.specs.Growth.{Result, addFirst, addLeaf, addOver, addRoot}
 use Rattle.growth_laws.specs.Growth.{leaf as newLeaf, root as newRoot}
 use Rattle.growth_exact.specs.GrowthExact.{GrownExactly, tableGrown, standing-is, rooted, leaf-exact, over-exact, root-exact}

@@ -15,9 +15,9 @@ use Rattle.table.specs.PlainTree.{plain}
 use Rattle.table.specs.CapacityLaws.{fits-told}
 use Rattle.table.specs.Rules.{labelLimit}
 use Rattle.table.specs.Rules.{numbered}
-use Rattle.growth.specs.declared.plan.Planned.{Planned}
-use Rattle.growth.specs.declared.plan.Planned.the-variants.{Refuse}
-use Rattle.growth.specs.Plan.{isLabel}
+use Rattle.growth_plan.specs.declared.row.Planned.{Planned}
+use Rattle.growth_plan.specs.declared.row.Planned.the-variants.{Refuse}
+use Rattle.growth_plan.specs.Plan.{isLabel}
 use Rattle.growth.specs.Outcome.{Outcome}
 use Rattle.growth.specs.Growth.{Result, grownBy}
 use Rattle.growth_laws.specs.Growth.{Growth, Named, named-root, parentOf}

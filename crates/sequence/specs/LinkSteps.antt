@@ -19,7 +19,7 @@ use Rattle.table.specs.Table.{tableOf}
 use Rattle.layer.specs.Layer.{parent}
 use Rattle.layer.specs.StoredTree.{first}
 use Rattle.table.specs.Rules.{labelLimit}
-use Rattle.growth.specs.Plan.{isLabel}
+use Rattle.growth_plan.specs.Plan.{isLabel}
 use Rattle.link_laws.specs.Link.{Linkable, target}
 use Rattle.link_laws.specs.LinkLaws.{link-stored}
 use Rattle.link_laws.specs.Order.{isOfTree, treeRows}

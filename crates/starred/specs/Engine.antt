@@ -37,11 +37,12 @@ use Rattle.join.specs.Attach.{firstOf, firstAfter, nextAfter, parentAfter, newL
 use Rattle.join.specs.Seat.{upperUnder, upperFor, oldHead, headOf, isFirst, isSeated, isWhole, seatAt, seatOf}
 use Rattle.join.specs.Store.{joinedAt}
 use Rattle.join.specs.Lone.{loneFields, loneNumbers, loneEntries}
-use Rattle.growth.specs.Store.{marked, planStored}
-use Rattle.growth.specs.Level.{levelFrom}
-use Rattle.growth.specs.PlannedRow.{plannedRow}
-use Rattle.growth.specs.Plan.{leafWithin, leafPlan, rootOver, rootWithin, rootPlan}
-use Rattle.growth.specs.Growth.{served, startedFields, started as treeStarted, grownBy, addLeaf, addRoot}
+use Rattle.growth_store.specs.Store.{marked, planStored}
+use Rattle.growth_plan.specs.Level.{levelFrom}
+use Rattle.growth_plan.specs.PlannedRow.{plannedRow}
+use Rattle.growth_plan.specs.Plan.{leafWithin, leafPlan, rootOver, rootWithin, rootPlan}
+use Rattle.growth.specs.Growth.{served, started as treeStarted, grownBy, addLeaf, addRoot}
+use Rattle.growth_store.specs.Start.{startedFields}
 use Rattle.ancestry.specs.Reading.{covers}
 use Rattle.ancestry.specs.CompressedStep.{arrive, climb, atEntry, pastEntry, pastReach, pastSpan, sideFrom}
 use Rattle.ancestry.specs.StoredAnswer.{isOnRow, forked, meeting, branchOf, join, between, storedFrom}

@@ -11,7 +11,7 @@ use Rattle.log.specs.Field.{cutShort, nextAt, bodyAt, fieldAt, wholeField}
 use Rattle.lines.specs.Bytes.{bytesOf}
 use Rattle.lines.specs.Decimal.{digits, digitsUpTo}
 use Rattle.lines.specs.Line.{valuesOf, lineOf, headerLine, endLine}
-use Rattle.transcript.specs.Report.{report}
+use Rattle.report.specs.Report.{report}
 use Rattle.transcript.specs.Session.{stepOf}
 use Rattle.transcript.specs.Transcript.{scratch, readFrom, readLog, transcript}
 use Rattle.transcript.specs.Asked.{call}

@@ -1,8 +1,4 @@
 pub mod Asked
-pub mod Printed
-pub mod PrintedLaws
-pub mod Report
-pub mod ReportLaws
 pub mod Session
 pub mod SessionLaws
 pub mod Bounds

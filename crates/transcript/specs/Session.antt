@@ -9,11 +9,11 @@ use Rattle.log.specs.Field.{fieldAt}
 use Rattle.lines.specs.declared.Text.{Text}
 use Rattle.table.specs.Parts.{Parts}
 use Rattle.sequence.specs.Run.{Fast}
+use Rattle.report.specs.Printed.{printedRefusal, printedLine}
+use Rattle.report.specs.Report.{Report, report, fastOf}
 use Rattle.transcript.specs.declared.turn.Reading.{Reading}
 use Rattle.transcript.specs.declared.turn.Turn.{Turn}
-use Rattle.transcript.specs.Printed.{printedRefusal, printedLine}
 use Rattle.transcript.specs.Asked.{Asked, call, nothing, askedBy}
-use Rattle.transcript.specs.Report.{Report, report, fastOf}
 
 -- how far the log is read, the ordinal of the next field, the rows renumbered so far, the table, and whether the reading goes on
 pub record Session : Type 0 where

@@ -14,12 +14,12 @@ use Rattle.log.specs.declared.Field.{Field}
 use Rattle.log.specs.Outcome.{outcomeOf}
 use Rattle.log.specs.Field.{fieldAt}
 use Rattle.table.specs.Parts.{Parts}
-use Rattle.transcript.specs.declared.reply.Shown.{Shown}
-use Rattle.transcript.specs.declared.serve.Served.{Served}
+use Rattle.report.specs.declared.reply.Shown.{Shown}
+use Rattle.report.specs.declared.serve.Served.{Served}
+use Rattle.report.specs.Printed.{printedOf, printedRefusal, printedLine}
+use Rattle.report.specs.Report.{Report, reportOf}
 use Rattle.transcript.specs.declared.turn.Reading.{Reading}
-use Rattle.transcript.specs.Printed.{printedOf, printedRefusal, printedLine}
 use Rattle.transcript.specs.Bounds.{Holds}
-use Rattle.transcript.specs.Report.{Report, reportOf}
 use Rattle.transcript.specs.Session.{Session, Step, reported, refusedField, stepBy, stepOf, sessionOf, written, turnOf}
 
 -- a text's bytes are its line

@@ -1,7 +1,5 @@
 // All that the log program prints for a log: header, a line to each field that prints one, and the last line.
 mod buffer;
-mod reply;
-mod serve;
 mod turn;
 
 use buffer::put_text;

@@ -1,20 +1,20 @@
 // One field of a log: its line, and what stands after it.
-use crate::reply::refused;
-use crate::serve::Served;
-use crate::serve::serve_alike;
-use crate::serve::serve_leaf;
-use crate::serve::serve_question;
-use crate::serve::serve_root;
 use lines::Text;
 use lines::line;
 use log::Field;
 use reader::read_at;
+use report::reply::refused;
+use report::serve::Served;
+use report::serve::serve_alike;
+use report::serve::serve_leaf;
+use report::serve::serve_question;
+use report::serve::serve_root;
 use table::state::State;
 ghost use mathlib.Core.Path.{_≡_};
 ghost use Prim.Native.Nat.{_+_, _≤_};
 ghost use Rattle.table.specs.Parts.{Parts, partsOf};
+ghost use Rattle.report.specs.Report.{reportOf};
 ghost use Rattle.transcript.specs.Bounds.{Grows, Small};
-ghost use Rattle.transcript.specs.Report.{reportOf};
 ghost use Rattle.transcript.specs.Session.{refusedField, reported, sessionOf, silent, stepOf, turnOf};
 
 // How far the log is read, the ordinal of the next field, the rows renumbered so far, the count, and whether the reading goes on.

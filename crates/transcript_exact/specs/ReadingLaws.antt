@@ -13,9 +13,9 @@ use Rattle.log.specs.Outcome.{Outcome, end, refusal as refusedAt, field}
 use Rattle.log.specs.Field.{fieldAt}
 use Rattle.sequence.specs.Calls.{Call}
 use Rattle.sequence.specs.Run.{Fast, step, run, totalIn}
+use Rattle.report.specs.Printed.{Printed, printedBy}
+use Rattle.report.specs.Report.{report}
 use Rattle.transcript.specs.Asked.{Asked, call, nothing, askedBy}
-use Rattle.transcript.specs.Printed.{Printed, printedBy}
-use Rattle.transcript.specs.Report.{report}
 use Rattle.transcript.specs.Session.{Session, wholeField, stepBy, stepOf}
 use Rattle.transcript.specs.PlaceLaws.{step-moves}
 use Rattle.transcript.specs.Transcript.{Reached, stopped, before, readFrom, scratch}

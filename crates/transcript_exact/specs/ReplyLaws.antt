@@ -24,7 +24,7 @@ use Rattle.sequence.specs.Agrees.{Agrees, refusals, nodes, links, answers, alik
 use Rattle.sequence.specs.Invariant.{Stands}
 use Rattle.sequence.specs.StepExact.{Renumbers, growth, start, begins-root, StepStands}
 use Rattle.sequence.specs.SequenceExact.{step-exact}
-use Rattle.transcript.specs.Printed.{printed, letterOf, printedBy}
+use Rattle.report.specs.Printed.{printed, letterOf, printedBy}
 use Rattle.transcript.specs.Transcript.{rows}
 use Rattle.transcript_exact.specs.Level.{levelIn}
 use Rattle.transcript_exact.specs.LevelLaws.{OneTree, one-grown, one-started, level-plain}

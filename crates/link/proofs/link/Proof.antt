@@ -16,8 +16,8 @@ enum-known-checked c = search needs
 enum-known-checked-2 : tie.Need-enum-known-checked-2
 enum-known-checked-2 c = search needs
 
-serve-requires : tie.Need-serve-requires
-serve-requires c κs = let a = c .before .before .before .before .before .before .before .before .before .before .before .before .before .before .before .before .before .before .args in let r = serve-ready (partsOf (a .fields .now) (a .numbers .now) (a .levels .now) (a .ancestors .now)) (length (a .scratch .now)) (a .state) (a .x) (a .v) (a .door) (c .before .before .before .before .before .before .before .before .check-link .ensures) (c .before .before .before .before .before .before .checked2 .given .1) in (r .holds, r .most)
+store-link-requires : tie.Need-store-link-requires
+store-link-requires c κs = let a = c .before .before .before .before .before .before .before .before .before .before .before .before .before .before .before .before .before .before .args in let r = serve-ready (partsOf (a .fields .now) (a .numbers .now) (a .levels .now) (a .ancestors .now)) (length (a .scratch .now)) (a .state) (a .x) (a .v) (a .door) (c .before .before .before .before .before .before .before .before .check-link .ensures) (c .before .before .before .before .before .before .checked2 .given .1) in (r .holds, r .most)
 
 same-length : tie.Need-same-length
 same-length c = search needs
@@ -53,7 +53,7 @@ same-length-10 : tie.Need-same-length-10
 same-length-10 c = search needs
 
 returns-2 : tie.Need-returns-2
-returns-2 c = let a = c .before .before .before .before .before .before .before .before .before .before .before .before .before .before .before .before .before .before .before .before .before .before .before .before .before .before .before .before .args in call-served (partsOf (a .fields .now) (a .numbers .now) (a .levels .now) (a .ancestors .now)) (a .scratch .now) (a .state) (a .x) (a .v) (a .door) (c .before .before .before .before .before .before .before .before .before .before .before .before .before .before .before .before .before .before .check-link .ensures) (c .before .before .before .before .before .before .before .before .before .before .before .before .before .before .before .before .checked2 .given .1) (c .before .before .before .before .before .before .before .before .before .serve .ensures) (omega arith)
+returns-2 c = let a = c .before .before .before .before .before .before .before .before .before .before .before .before .before .before .before .before .before .before .before .before .before .before .before .before .before .before .before .before .args in call-served (partsOf (a .fields .now) (a .numbers .now) (a .levels .now) (a .ancestors .now)) (a .scratch .now) (a .state) (a .x) (a .v) (a .door) (c .before .before .before .before .before .before .before .before .before .before .before .before .before .before .before .before .before .before .check-link .ensures) (c .before .before .before .before .before .before .before .before .before .before .before .before .before .before .before .before .checked2 .given .1) (c .before .before .before .before .before .before .before .before .before .store-link .ensures) (omega arith)
 
 pub link-spec : {M : Type 1} → statement M
 link-spec =
@@ -62,7 +62,7 @@ link-spec =
     check-link-requires
     enum-known-checked
     enum-known-checked-2
-    serve-requires
+    store-link-requires
     same-length
     same-length-2
     same-length-3

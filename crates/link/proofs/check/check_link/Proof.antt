@@ -1,7 +1,7 @@
 -- `check_link`: the refusals in their order.
 use Rattle.link.specs.CheckLaws.{check-misfit, check-scratch, check-x, check-v, check-label, check-count, check-lost, check-not-root, check-other-lost, check-same, check-inspect, trees-are, check-serve}
 use Rattle.link.specs.declared.check.Checked.the-variants.{Serve}
-use Rattle.growth.specs.PlanLaws.{root-read}
+use Rattle.growth_plan.specs.PlanLaws.{root-read}
 use Rattle.inspect.specs.InspectionLaws.{told-capacity}
 use Rattle.table.specs.Parts.{partsOf}
 use borrow.Author.Tests.{not-true, not-false}

@@ -1,0 +1,2 @@
+pub mod GrowthCalls
+pub mod GrowthCallsLaws

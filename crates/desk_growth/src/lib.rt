@@ -1,0 +1,147 @@
+// The table form for a C host, as include/vundreli.h declares it: the calls that change a table. The lent parts are handed over as they are, the count by
+// value. A slice is a pointer and a count.
+use replies::reply_grown;
+use replies::reply_linked;
+use replies::reply_made;
+use table::refusal::Refusal;
+use table::refusal::number_of;
+use table::state::State;
+ghost use mathlib.Core.Path.{_≡_};
+ghost use lib.ListN.{length};
+ghost use Rattle.table.specs.Parts.{partsOf};
+ghost use Rattle.replies.specs.Reply.{stateOf, reply};
+ghost use Rattle.desk_growth.specs.GrowthCalls.{outcome, setUpCall, firstCall, leafCall, rootCall, LinkCall};
+
+// How many values each call has for its out slice.
+const MADE_OUT: usize = 1;
+
+const GROWN_OUT: usize = 4;
+
+const LINKED_OUT: usize = 2;
+
+// An empty table. Out: count.
+#[no_mangle]
+pub extern "C" fn nca_table_set_up(
+    fields: &mut [u16],
+    numbers: &mut [u64],
+    levels: &mut [i32],
+    ancestors: &mut [u16],
+    out: &mut [u16],
+) -> u16
+    ensures { λ r. ⌜ outcome (partsOf (now (fields .exit)) (now (numbers .exit)) (now (levels .exit)) (now (ancestors .exit))) (reply r (now (out .exit))) ≡ setUpCall (partsOf (now (fields .entry)) (now (numbers .entry)) (now (levels .entry)) (now (ancestors .entry))) (now (out .entry)) ⌝ }
+{
+    if out.len() != MADE_OUT {
+        return number_of(Refusal::Misfit);
+    }
+    let made = set_up::set_up(fields, numbers, levels, ancestors);
+    reply_made(made, out)
+}
+
+// A first node, which begins a tree. Out: count, node, rows renumbered, head.
+#[no_mangle]
+pub extern "C" fn nca_table_add_first(
+    fields: &mut [u16],
+    numbers: &mut [u64],
+    levels: &mut [i32],
+    ancestors: &mut [u16],
+    scratch: &[u16],
+    count: u16,
+    out: &mut [u16],
+) -> u16
+    ensures { λ r. ⌜ outcome (partsOf (now (fields .exit)) (now (numbers .exit)) (now (levels .exit)) (now (ancestors .exit))) (reply r (now (out .exit))) ≡ firstCall (partsOf (now (fields .entry)) (now (numbers .entry)) (now (levels .entry)) (now (ancestors .entry))) (now (out .entry)) (length (now (scratch .entry))) (stateOf count) ⌝ }
+{
+    if out.len() != GROWN_OUT {
+        return number_of(Refusal::Misfit);
+    }
+    let state = State { count: count };
+    let grown = growth::add_first(fields, numbers, levels, ancestors, scratch, state);
+    reply_grown(grown, out)
+}
+
+// A new leaf. Out: count, node, rows renumbered, head.
+#[no_mangle]
+pub extern "C" fn nca_table_add_leaf(
+    fields: &mut [u16],
+    numbers: &mut [u64],
+    levels: &mut [i32],
+    ancestors: &mut [u16],
+    scratch: &[u16],
+    count: u16,
+    parent: u16,
+    label: u16,
+    out: &mut [u16],
+) -> u16
+    ensures { λ r. ⌜ outcome (partsOf (now (fields .exit)) (now (numbers .exit)) (now (levels .exit)) (now (ancestors .exit))) (reply r (now (out .exit))) ≡ leafCall (partsOf (now (fields .entry)) (now (numbers .entry)) (now (levels .entry)) (now (ancestors .entry))) (now (out .entry)) (length (now (scratch .entry))) (stateOf count) parent label ⌝ }
+{
+    if out.len() != GROWN_OUT {
+        return number_of(Refusal::Misfit);
+    }
+    let state = State { count: count };
+    let grown = growth::add_leaf(
+        fields,
+        numbers,
+        levels,
+        ancestors,
+        scratch,
+        state,
+        parent,
+        label,
+    );
+    reply_grown(grown, out)
+}
+
+// A new root over x, the root of a tree. Out: count, node, rows renumbered, head.
+#[no_mangle]
+pub extern "C" fn nca_table_add_root(
+    fields: &mut [u16],
+    numbers: &mut [u64],
+    levels: &mut [i32],
+    ancestors: &mut [u16],
+    scratch: &[u16],
+    count: u16,
+    x: u16,
+    out: &mut [u16],
+) -> u16
+    ensures { λ r. ⌜ outcome (partsOf (now (fields .exit)) (now (numbers .exit)) (now (levels .exit)) (now (ancestors .exit))) (reply r (now (out .exit))) ≡ rootCall (partsOf (now (fields .entry)) (now (numbers .entry)) (now (levels .entry)) (now (ancestors .entry))) (now (out .entry)) (length (now (scratch .entry))) (stateOf count) x ⌝ }
+{
+    if out.len() != GROWN_OUT {
+        return number_of(Refusal::Misfit);
+    }
+    let state = State { count: count };
+    let grown = growth::add_root_over(fields, numbers, levels, ancestors, scratch, state, x);
+    reply_grown(grown, out)
+}
+
+// The tree of root x under v, a node of another tree; x takes the label. Out: rows renumbered, head.
+#[no_mangle]
+pub extern "C" fn nca_table_link(
+    fields: &mut [u16],
+    numbers: &mut [u64],
+    levels: &mut [i32],
+    ancestors: &mut [u16],
+    scratch: &mut [u16],
+    count: u16,
+    x: u16,
+    v: u16,
+    label: u16,
+    out: &mut [u32],
+) -> u16
+    ensures { λ r. ⌜ LinkCall (partsOf (now (fields .entry)) (now (numbers .entry)) (now (levels .entry)) (now (ancestors .entry))) (now (out .entry)) (now (scratch .entry)) (stateOf count) x v label (now (scratch .exit)) (outcome (partsOf (now (fields .exit)) (now (numbers .exit)) (now (levels .exit)) (now (ancestors .exit))) (reply r (now (out .exit)))) ⌝ }
+{
+    if out.len() != LINKED_OUT {
+        return number_of(Refusal::Misfit);
+    }
+    let state = State { count: count };
+    let linked = link::link(
+        fields,
+        numbers,
+        levels,
+        ancestors,
+        scratch,
+        state,
+        x,
+        v,
+        label,
+    );
+    reply_linked(linked, out)
+}

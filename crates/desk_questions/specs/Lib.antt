@@ -1,0 +1,2 @@
+pub mod QuestionCalls
+pub mod QuestionCallsLaws

@@ -1,2 +1,0 @@
-pub mod TableCalls
-pub mod TableCallsLaws

@@ -1,0 +1,21 @@
+-- The plan of a row that is to join, by its seat.
+use mathlib.Core.Path.{_≡_}
+use mathlib.Core.List.{List}
+use Prim.Native.Nat.{ℕ}
+use lib.IntN.{ℤ}
+use Rattle.table.specs.declared.refusal.Refusal.the-variants.{Corrupt}
+use Rattle.join.specs.declared.seat.Seat.{Seat}
+use Rattle.join.specs.declared.seat.Seating.the-variants.{At, Corrupt as Astray}
+use Rattle.join.specs.Seat.{seatOf}
+use Rattle.growth_plan.specs.declared.row.Planned.the-variants.{Grow, Refuse}
+use Rattle.growth_plan.specs.PlannedRow.{plannedRow}
+
+module _ (f m a : List ℕ) (n z p : ℕ) (level : ℤ) (label tree : ℕ) where
+  pub no-seat : Astray ≡ seatOf f m a n z p → Refuse Corrupt ≡ plannedRow f m a n z p level label tree
+  unfolding plannedRow
+  no-seat e = rw (← e)
+
+  pub on-seat : (s : Seat) → At s ≡ seatOf f m a n z p
+      → Grow (record { seat = s; level = level; label = label; tree = tree }) ≡ plannedRow f m a n z p level label tree
+  unfolding plannedRow
+  on-seat s e = rw (← e)

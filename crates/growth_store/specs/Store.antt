@@ -1,0 +1,35 @@
+-- The stores of a row that joins as planned: those of the layer, then label, root record and level.
+use mathlib.Core.List.{List}
+use Prim.Native.Nat.{ℕ}
+use lib.IntN.{ℤ}
+use Rattle.tree_laws.specs.Ancestor.{none}
+use Rattle.layer.specs.Write.{withField}
+use Rattle.table.specs.Layout.{labelPlace, rootPlace}
+use Rattle.table.specs.Parts.{Parts, partsOf, withLevel}
+use Rattle.renumber.specs.NumberWalk.{Walked, written}
+use Rattle.join.specs.Store.{joinedAt}
+use Rattle.growth_plan.specs.declared.row.Plan.{Plan}
+
+-- the parts afterwards, and how many rows were given a start
+pub record Stored : Type 0 where
+  pub parts : Parts
+  pub given : ℕ
+
+abbrev pub stored : Parts → ℕ → Stored
+stored t n = record { parts = t; given = n }
+
+-- the leaf has its label; the row of the tree records it as its root; the leaf itself records none
+unfoldable pub marked : List ℕ → ℕ → ℕ → ℕ → List ℕ
+marked f leaf label tree = withField (withField (withField f leaf labelPlace label) leaf rootPlace none) tree rootPlace leaf
+
+-- what the layer's stores left, with the marks of the leaf
+abbrev pub withMarks : List ℤ → Plan → Walked → Stored
+withMarks l g w =
+    stored
+    (partsOf (marked (w .parts .fields) (g .seat .leaf .row) (g .label) (g .tree)) (w .parts .numbers) (withLevel l (g .seat .leaf .row) (g .level))
+    (w .parts .ancestors))
+    (w .given)
+
+-- in a table of n rows
+unfoldable pub planStored : Parts → ℕ → Plan → Stored
+planStored t n g = withMarks (t .levels) g (joinedAt (written (t .fields) (t .numbers) (t .ancestors)) n (g .seat))

@@ -1,0 +1,9 @@
+pub mod JoinRow
+pub mod Detach
+pub mod DetachLaws
+pub mod Sort
+pub mod SortLaws
+pub mod Walk
+pub mod WalkLaws
+pub mod JoinedTree
+pub mod JoinedTreeLaws

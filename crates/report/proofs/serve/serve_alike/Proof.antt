@@ -1,0 +1,17 @@
+-- `serve_alike` is the report of alike.
+use Rattle.report.specs.ReportLaws.{alike-report}
+use borrow.Author.Needs.{needs}
+use Rattle.report.proofs.serve.serve_alike.Statement.{statement}
+use Rattle.report.proofs.serve.serve_alike.Tie as tie
+
+same-labels-requires : tie.Need-same-labels-requires
+same-labels-requires c κs = search needs
+
+compared-requires : tie.Need-compared-requires
+compared-requires c κs = search needs
+
+returns : tie.Need-returns
+returns c = let a = c .before .before .before .before .before .args in alike-report _ (a .state) (a .x) (a .y) (c .compared .result) _ (c .before .same-labels .ensures) (c .compared .ensures)
+
+pub serve-alike-spec : {M : Type 1} → statement M
+serve-alike-spec = tie.close (tie.spec same-labels-requires compared-requires returns)

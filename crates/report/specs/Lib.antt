@@ -1,0 +1,4 @@
+pub mod Printed
+pub mod PrintedLaws
+pub mod Report
+pub mod ReportLaws
