@@ -14,7 +14,7 @@ use Rattle.join_laws.specs.Joined.{SameNode, SamePlace}
 use Rattle.join_laws.specs.JoinedLinks.{last-child}
 use Rattle.join_laws.specs.KeptLaws.{kept-same, kept-trans}
 use Rattle.join_laws.specs.Lone.{Kept}
-use Rattle.growth_laws.specs.Growth.{Growth, parentOf}
+use Rattle.growth_laws.specs.Growth.{Growth, parentOf, treeOf}
 use Rattle.growth_laws.specs.Grown.{Grown}
 use Rattle.growth_laws.specs.GrownLaws.{planted, other}
 use Rattle.growth_laws.specs.GrowthFrame.{Untouched, Outside, GrowthFrame}
@@ -71,7 +71,7 @@ module _ {c : ℕ} {t d : Table} {g : Growth} {h : ℕ} (r : Numbered (t .layer)
     marks = λ x o. k .marks x (o .inUse);
     sizeKept = λ x o n. frame .sizeRest x (old o) (o .apart) n ∙ kept o .sameSize;
     sizeChain = λ x o a. frame .sizeAbove x (old o) (o .apart) a ∙ ap (λ (s : ℕ). s + 1) (kept o .sameSize);
-    rootKept = λ x o n. k .roots x (o .inUse) ∙ (rw (says-false (says-eqb x _) n) refl);
+    rootKept = λ x o n. k .roots x (o .inUse) ∙ (rw (says-false (says-eqb x (treeOf t g)) n) refl);
     nextFreeKept = λ x o n. frame .nextFreeRest x (old o) (o .apart) n ∙ kept o .sameNextFree;
     firstKept = λ x o n. frame .links x (old o) .firstKept (inl n) ∙ kept o .sameFirst;
     lastKept = λ x o n. frame .links x (old o) .lastKept n ∙ kept o .sameLast;
