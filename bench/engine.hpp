@@ -12,22 +12,22 @@ public:
     static constexpr double bytes_per_row = 288;
 
     explicit Engine(uint32_t capacity)
-        : fields(12 * capacity), numbers(2 * capacity), levels(capacity), ancestors(122 * capacity), scratch(capacity) {
+        : fields(12 * capacity), numbers(2 * capacity), levels(capacity), ancestors(122 * capacity), tally(NCA_TALLY_LEN), scratch(capacity) {
         served(nca_table_set_up(fields.data(), fields.size(), numbers.data(), numbers.size(), levels.data(), levels.size(), ancestors.data(),
-                                ancestors.size(), &count, 1));
+                                ancestors.size(), tally.data(), tally.size(), &count, 1));
     }
 
     uint16_t add_first() {
         uint16_t out[4];
         served(nca_table_add_first(fields.data(), fields.size(), numbers.data(), numbers.size(), levels.data(), levels.size(), ancestors.data(),
-                                   ancestors.size(), scratch.data(), scratch.size(), count, out, 4));
+                                   ancestors.size(), tally.data(), tally.size(), scratch.data(), scratch.size(), count, out, 4));
         return grown(out);
     }
 
     uint16_t add_leaf(uint16_t parent, uint16_t label) {
         uint16_t out[4];
         served(nca_table_add_leaf(fields.data(), fields.size(), numbers.data(), numbers.size(), levels.data(), levels.size(), ancestors.data(),
-                                  ancestors.size(), scratch.data(), scratch.size(), count, parent, label, out, 4));
+                                  ancestors.size(), tally.data(), tally.size(), scratch.data(), scratch.size(), count, parent, label, out, 4));
         return grown(out);
     }
 
@@ -39,7 +39,7 @@ public:
         }
         uint16_t out[4];
         served(nca_table_add_root(fields.data(), fields.size(), numbers.data(), numbers.size(), levels.data(), levels.size(), ancestors.data(),
-                                  ancestors.size(), scratch.data(), scratch.size(), count, root, out, 4));
+                                  ancestors.size(), tally.data(), tally.size(), scratch.data(), scratch.size(), count, root, out, 4));
         root = out[1];
         return grown(out);
     }
@@ -48,7 +48,7 @@ public:
     uint32_t link(uint16_t x, uint16_t v, uint16_t label) {
         uint32_t out[2];
         served(nca_table_link(fields.data(), fields.size(), numbers.data(), numbers.size(), levels.data(), levels.size(), ancestors.data(),
-                              ancestors.size(), scratch.data(), scratch.size(), count, x, v, label, out, 2));
+                              ancestors.size(), tally.data(), tally.size(), scratch.data(), scratch.size(), count, x, v, label, out, 2));
         return out[0];
     }
 
@@ -62,14 +62,16 @@ public:
     bool inspect() {
         uint16_t out[1];
         served(nca_table_inspect(fields.data(), fields.size(), numbers.data(), numbers.size(), levels.data(), levels.size(), ancestors.data(),
-                                 ancestors.size(), scratch.data(), scratch.size(), count, out, 1));
+                                 ancestors.size(), tally.data(), tally.size(), scratch.data(), scratch.size(), count, out, 1));
         return out[0] == 1;
     }
 
-    // One pass over the four parts by words.
+    uint16_t most_label() const { return tally[NCA_TALLY_LEN - 1]; }
+
+    // One pass over the four parts and the tally by words.
     uint64_t pass() const {
         return words(fields.data(), fields.size() * 2) + words(numbers.data(), numbers.size() * 8) + words(levels.data(), levels.size() * 4) +
-               words(ancestors.data(), ancestors.size() * 2);
+               words(ancestors.data(), ancestors.size() * 2) + words(tally.data(), tally.size() * 2);
     }
 
 private:
@@ -94,6 +96,6 @@ private:
     std::vector<uint16_t> fields;
     std::vector<uint64_t> numbers;
     std::vector<int32_t> levels;
-    std::vector<uint16_t> ancestors, scratch;
+    std::vector<uint16_t> ancestors, tally, scratch;
     uint16_t count = 0, root = NONE;
 };

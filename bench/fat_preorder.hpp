@@ -1,7 +1,8 @@
-// Baseline (a): the engine's structure without checks: fat preorder numbers, heavy paths, 122 ancestor entries to a row.
+// Baseline (a): the engine's structure without checks: fat preorder numbers, heavy paths, 122 ancestor entries to a row, a tally of labels.
 #pragma once
 #include "answer.hpp"
 #include "rerooted.hpp"
+#include "tally.hpp"
 #include <algorithm>
 #include <array>
 #include <numeric>
@@ -45,10 +46,12 @@ public:
     uint16_t parent(uint16_t v) const { return rows[v].parent; }
     bool on_line(uint16_t v) const { return rows[v].level == -int32_t(rows[v].depth); }
 
-    // The six rules.
+    uint16_t most_label() const { return tally.most_label(); }
+
+    // The six rules, and the tally.
     bool inspect() {
         uint32_t n = uint32_t(rows.size());
-        return n == 0 || (tree_holds(n) && paths_hold(n) && spans_hold(n) && entries_hold(n));
+        return (n == 0 || (tree_holds(n) && paths_hold(n) && spans_hold(n) && entries_hold(n))) && tally.holds(rows);
     }
 
     uint16_t root = NONE;
@@ -120,6 +123,7 @@ private:
     uint16_t grow(uint16_t parent, uint16_t label, int32_t level) {
         uint16_t x = uint16_t(rows.size());
         rows.push_back({parent, NONE, NONE, NONE, NONE, NONE, 1, 0, 0, label, level, 0, 0});
+        tally.count(label);
         if (parent != NONE) {
             Row &above = rows[parent];
             rows[x].depth = above.depth + 1;
@@ -293,4 +297,5 @@ private:
     std::vector<std::array<uint16_t, ENTRIES>> entries;
     std::array<uint64_t, 125> powers{};
     std::vector<uint16_t> order, size, apexes;
+    Tally<TUNED> tally;
 };

@@ -129,6 +129,7 @@ static void measure(const Shape &shape, uint32_t n, uint32_t roots) {
         uint16_t a = list[i].root ? engine.add_root() : engine.add_leaf(list[i].parent, label_of(i));
         uint16_t b = list[i].root ? plain.add_root() : plain.add_leaf(list[i].parent, label_of(i));
         same(a == b, "rows renumbered");
+        same(engine.most_label() == plain.most_label(), "the label that most nodes carry");
         total += a;
         most = std::max(most, total * 1000 / (i + 1));
     }
@@ -238,7 +239,7 @@ int main(int argc, char **argv) {
             for (uint32_t roots : {0u, 5u}) measure(shape, n, roots);
     std::printf("\n| tree linked | nodes | a joined node, ns | to leaves | to C++ leaves | to C++ leaves, tuned | rows a node |\n|---|---|---|---|---|---|---|\n");
     for (auto &shape : shapes) measure_link(shape, 16384);
-    std::printf("\nBytes a row: engine %.0f (and 2 of scratch), C++ %.0f, parent walk %.0f, jump pointers %.0f.\n", Engine::bytes_per_row, Plain::bytes_per_row,
+    std::printf("\nBytes a row: engine %.0f (and 2 of scratch), C++ %.0f, parent walk %.0f, jump pointers %.0f; beside the rows 20,002 for a tally, in the engine and in C++.\n", Engine::bytes_per_row, Plain::bytes_per_row,
                 ParentWalk::bytes_per_row, JumpPointers::bytes_per_row);
     if (argc > 1) depths(argv[1]);
     return 0;

@@ -44,16 +44,18 @@ static struct table {
     uint64_t numbers[2 * CAPACITY];
     int32_t levels[CAPACITY];
     uint16_t ancestors[122 * CAPACITY];
+    uint16_t tally[NCA_TALLY_LEN];
     uint16_t count, root; /* the root is that of the log's tree: the last node that a new root gave */
 } table;
 
 static uint16_t scratch[CAPACITY];
 
 #define PARTS table.fields, 12 * CAPACITY, table.numbers, 2 * CAPACITY, table.levels, CAPACITY, table.ancestors, 122 * CAPACITY
+#define COUNTS table.tally, NCA_TALLY_LEN
 
 static unsigned table_set_up(void) {
     uint16_t out[1];
-    unsigned refusal = nca_table_set_up(PARTS, out, 1);
+    unsigned refusal = nca_table_set_up(PARTS, COUNTS, out, 1);
     if (refusal == 0)
         table.count = out[0];
     return refusal;
@@ -73,17 +75,17 @@ static unsigned table_grown(unsigned refusal, const uint16_t out[4], struct grow
 
 static unsigned table_add_first(struct growth *g) {
     uint16_t out[4];
-    return table_grown(nca_table_add_first(PARTS, scratch, CAPACITY, table.count, out, 4), out, g);
+    return table_grown(nca_table_add_first(PARTS, COUNTS, scratch, CAPACITY, table.count, out, 4), out, g);
 }
 
 static unsigned table_add_leaf(unsigned parent, unsigned label, struct growth *g) {
     uint16_t out[4];
-    return table_grown(nca_table_add_leaf(PARTS, scratch, CAPACITY, table.count, (uint16_t)parent, (uint16_t)label, out, 4), out, g);
+    return table_grown(nca_table_add_leaf(PARTS, COUNTS, scratch, CAPACITY, table.count, (uint16_t)parent, (uint16_t)label, out, 4), out, g);
 }
 
 static unsigned table_add_root_over(unsigned x, struct growth *g) {
     uint16_t out[4];
-    return table_grown(nca_table_add_root(PARTS, scratch, CAPACITY, table.count, (uint16_t)x, out, 4), out, g);
+    return table_grown(nca_table_add_root(PARTS, COUNTS, scratch, CAPACITY, table.count, (uint16_t)x, out, 4), out, g);
 }
 
 /* The new root of a log: it names none. */
@@ -95,7 +97,7 @@ static unsigned table_add_root(struct growth *g) {
 }
 
 static unsigned table_link(unsigned x, unsigned v, unsigned label, uint32_t out[2]) {
-    return nca_table_link(PARTS, scratch, CAPACITY, table.count, (uint16_t)x, (uint16_t)v, (uint16_t)label, out, 2);
+    return nca_table_link(PARTS, COUNTS, scratch, CAPACITY, table.count, (uint16_t)x, (uint16_t)v, (uint16_t)label, out, 2);
 }
 
 static unsigned table_query(unsigned x, unsigned y, struct answer *a) {
@@ -112,7 +114,7 @@ static unsigned table_query(unsigned x, unsigned y, struct answer *a) {
 static uint8_t tree[NCA_TREE_BYTES];
 
 /* The places of the columns. */
-enum { FIELDS = 2, NUMBERS = 3074, LEVELS = 5122, ANCESTORS = 5634 };
+enum { FIELDS = 2, NUMBERS = 3074, LEVELS = 5122, ANCESTORS = 5634, TALLY = 36866 };
 
 static unsigned little_endian(const uint8_t *b) { return b[0] + 256u * b[1]; }
 
@@ -162,15 +164,23 @@ static unsigned tree_query(unsigned x, unsigned y, struct answer *a) {
 
 /* ---- any form */
 
+/* The last entry of a tally, which names a label. */
+enum { MOST = NCA_TALLY_LEN - 1 };
+
+static unsigned table_tally(unsigned i) { return table.tally[i]; }
+
+static unsigned tree_tally(unsigned i) { return little_endian(tree + TALLY + 2 * i); }
+
 struct form {
     unsigned (*set_up)(void);
     unsigned (*add_leaf)(unsigned parent, unsigned label, struct growth *g);
     unsigned (*add_root)(struct growth *g);
     unsigned (*query)(unsigned x, unsigned y, struct answer *a);
+    unsigned (*tally)(unsigned i);
 };
 
-static const struct form TABLE = {table_set_up, table_add_leaf, table_add_root, table_query};
-static const struct form TREE = {tree_set_up, tree_add_leaf, tree_add_root, tree_query};
+static const struct form TABLE = {table_set_up, table_add_leaf, table_add_root, table_query, table_tally};
+static const struct form TREE = {tree_set_up, tree_add_leaf, tree_add_root, tree_query, tree_tally};
 
 static unsigned big_endian(const uint8_t *b) { return 256u * b[0] + b[1]; }
 
@@ -201,6 +211,7 @@ static void play(const struct form *f, unsigned (*count)(void)) {
     for (size_t at = 0; at < sizeof LOG; at += 3 + big_endian(LOG + at + 1))
         total += play_field(f, ++ordinal, LOG + at);
     printf("end %u %u\n", count(), total);
+    printf("most %u %u\n", f->tally(MOST), f->tally(f->tally(MOST)));
 }
 
 /* A path of as many nodes as there is room for, and one more. */
@@ -218,6 +229,8 @@ static void fill(const struct form *f) {
     expect(f->query(CAPACITY - 1, 64, &a) == 0 && a.values[0] == 64 && a.values[1] == 65 && a.values[3] == 63 && a.values[5] == 64, "a question on the full tree");
     expect(f->query(CAPACITY, 0, &a) == NCA_UNKNOWN_NODE, "an unknown node is refused");
     expect(f->add_leaf(0, 10000, &g) == NCA_BAD_LABEL, "a label of 10,000 is refused");
+    expect(f->tally(0) == 1 && f->tally(1) == 1 && f->tally(CAPACITY - 1) == 1 && f->tally(CAPACITY) == 0, "each label is counted once");
+    expect(f->tally(MOST) == 0, "of labels that are carried alike the smallest is named");
 }
 
 static unsigned table_count(void) { return table.count; }
@@ -227,15 +240,21 @@ static unsigned tree_count(void) { return little_endian(tree); }
 static void table_calls(void) {
     uint16_t out[4] = {9, 9, 9, 9}, yes = 9;
     struct table before = table;
-    expect(nca_table_add_root(PARTS, scratch, CAPACITY, table.count, table.root, out, 3) == NCA_MISFIT, "a short out slice is a misfit");
-    expect(nca_table_add_root(PARTS, scratch, CAPACITY - 1, table.count, table.root, out, 4) == NCA_MISFIT, "a short scratch is a misfit");
+    expect(nca_table_add_root(PARTS, COUNTS, scratch, CAPACITY, table.count, table.root, out, 3) == NCA_MISFIT, "a short out slice is a misfit");
+    expect(nca_table_add_root(PARTS, COUNTS, scratch, CAPACITY - 1, table.count, table.root, out, 4) == NCA_MISFIT, "a short scratch is a misfit");
+    expect(nca_table_add_root(PARTS, table.tally, NCA_TALLY_LEN - 1, scratch, CAPACITY, table.count, table.root, out, 4) == NCA_MISFIT, "a short tally is a misfit");
     expect(out[0] == 9 && out[3] == 9 && memcmp(&before, &table, sizeof table) == 0, "a refusal changes nothing");
     expect(nca_table_alike(PARTS, table.count, 1, 1, &yes, 1) == 0 && yes == 1, "a node is alike to itself");
     expect(nca_table_alike(PARTS, table.count, 1, 2, &yes, 1) == 0 && yes == 0, "other labels are not alike");
-    expect(nca_table_inspect(PARTS, scratch, CAPACITY, table.count, &yes, 1) == 0 && yes == 1, "the table passes inspection");
+    expect(nca_table_inspect(PARTS, COUNTS, scratch, CAPACITY, table.count, &yes, 1) == 0 && yes == 1, "the table passes inspection");
     table.levels[1] += 1;
-    expect(nca_table_inspect(PARTS, scratch, CAPACITY, table.count, &yes, 1) == 0 && yes == 0, "a false level does not pass");
+    expect(nca_table_inspect(PARTS, COUNTS, scratch, CAPACITY, table.count, &yes, 1) == 0 && yes == 0, "a false level does not pass");
     table.levels[1] -= 1;
+    table.tally[7] += 1;
+    expect(nca_table_inspect(PARTS, COUNTS, scratch, CAPACITY, table.count, &yes, 1) == 0 && yes == 0, "nor does a false tally");
+    table.tally[7] = CAPACITY;
+    expect(nca_table_add_leaf(PARTS, COUNTS, scratch, CAPACITY, table.count, 0, 7, out, 4) == NCA_CORRUPT, "a label that would be carried too often is refused");
+    table.tally[7] = 1;
 }
 
 /* Two trees in one table, and the second linked under a node of the first. */
@@ -259,9 +278,12 @@ static void several_trees(void) {
     expect(table_link(3, 1, 5, out) == 0 && out[0] == 7 && out[1] == 0, "the second tree is linked");
     expect(table.levels[3] == 2 && table.levels[2] == 3, "its levels shift");
     expect(table_query(2, 0, &a) == 0 && a.values[0] == 0 && a.values[1] == 1 && a.values[3] == 3, "and both answer together");
+    expect(table.tally[0] == 2 && table.tally[5] == 1 && table.tally[7] == 1 && table.tally[MOST] == 0, "the linked root is counted by its label");
     expect(table_add_first(&g) == 0 && g.node == 4, "a third tree is begun");
     expect(table_link(0, 4, 6, out) == 0 && out[1] == 4, "the head of a link is the first row of the receiving tree");
-    expect(nca_table_inspect(PARTS, scratch, CAPACITY, table.count, &yes, 1) == 0 && yes == 1, "the table passes inspection");
+    expect(table_add_leaf(4, 6, &g) == 0 && table.tally[0] == 2 && table.tally[6] == 2 && table.tally[MOST] == 0, "two labels are carried by two nodes each");
+    expect(table_add_leaf(4, 6, &g) == 0 && table.tally[6] == 3 && table.tally[MOST] == 6, "and one by the most");
+    expect(nca_table_inspect(PARTS, COUNTS, scratch, CAPACITY, table.count, &yes, 1) == 0 && yes == 1, "the table passes inspection");
 }
 
 static void tree_calls(void) {
@@ -278,6 +300,9 @@ static void tree_calls(void) {
     tree[FIELDS + 2 * 10] = 200; /* a root that is no node, in row 0 */
     expect(nca_query(tree, NCA_TREE_BYTES, 0, 1, out, 16) == NCA_CORRUPT, "a tree that these calls did not leave is refused");
     tree[FIELDS + 2 * 10] = before[FIELDS + 2 * 10];
+    tree[TALLY + 2 * 7] = CAPACITY;
+    expect(nca_add_leaf(tree, NCA_TREE_BYTES, 0, 7, out, 6) == NCA_CORRUPT, "so is a label that would be carried too often");
+    tree[TALLY + 2 * 7] = before[TALLY + 2 * 7];
 }
 
 /* Both forms grow and answer alike, to the last node, and the tree holds what the table holds. */
@@ -309,6 +334,8 @@ static void compare(void) {
         expect(signed_at(tree + LEVELS + 4 * i) == table.levels[i], "the levels are the same");
     for (unsigned i = 0; i < 122 * CAPACITY; i++)
         expect(little_endian(tree + ANCESTORS + 2 * i) == table.ancestors[i], "the ancestor entries are the same");
+    for (unsigned i = 0; i < NCA_TALLY_LEN; i++)
+        expect(tree_tally(i) == table_tally(i), "the tallies are the same");
 }
 
 int main(void) {

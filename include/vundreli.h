@@ -20,8 +20,8 @@ extern "C" {
 enum nca_refusal {
     NCA_UNKNOWN_NODE = 1, /* a named node is not below the count */
     NCA_FULL = 2,         /* growth with as many nodes as there is room for */
-    NCA_MISFIT = 3,       /* the slices do not fit one capacity from 1 to 32,768, or an out slice is of another length */
-    NCA_CORRUPT = 4,      /* the table is none that these calls left */
+    NCA_MISFIT = 3,       /* the slices do not fit one capacity from 1 to 32,768, or a tally or an out slice is of another length */
+    NCA_CORRUPT = 4,      /* the table or the tally is none that these calls left */
     NCA_BAD_LABEL = 5,    /* a label outside 1 to 9,999 */
     NCA_NOT_ROOT = 10,    /* a new root over, or a link of, a node that is not the root of its tree */
     NCA_SAME_TREE = 11,   /* a link under a node of the same tree */
@@ -30,17 +30,23 @@ enum nca_refusal {
 
 /* The table form. A table of capacity c is lent as four slices: fields (12 c), numbers (2 c), levels (c), ancestors (122 c).
  * It holds several trees, each begun by a first node. The count goes in by value, and the caller keeps the one that a growth writes to its out slice.
+ * The tally (NCA_TALLY_LEN) is lent beside it to each call that makes, changes or inspects it: for each label from 0 to 9,999 how many nodes carry it, and
+ * last the label that most nodes carry, the smallest of several. First nodes and new roots carry 0. Set-up clears the tally; growths and links keep it.
  * scratch (c) is memory apart from the table; growth looks at its length only, inspection and a served link may leave anything in it.
  * The head of a growth is the row that headed the renumbering, that of a link the first row of the receiving stored tree. */
+
+#define NCA_TALLY_LEN 10001
 
 /* An empty table. out (1): count. */
 uint16_t nca_table_set_up(uint16_t *fields, size_t fields_len, uint64_t *numbers, size_t numbers_len,
                           int32_t *levels, size_t levels_len, uint16_t *ancestors, size_t ancestors_len,
+                          uint16_t *tally, size_t tally_len,
                           uint16_t *out, size_t out_len);
 
 /* The first node of a new tree, its root. out (4): count, the new node, rows renumbered, head. */
 uint16_t nca_table_add_first(uint16_t *fields, size_t fields_len, uint64_t *numbers, size_t numbers_len,
                              int32_t *levels, size_t levels_len, uint16_t *ancestors, size_t ancestors_len,
+                             uint16_t *tally, size_t tally_len,
                              const uint16_t *scratch, size_t scratch_len,
                              uint16_t count,
                              uint16_t *out, size_t out_len);
@@ -48,6 +54,7 @@ uint16_t nca_table_add_first(uint16_t *fields, size_t fields_len, uint64_t *numb
 /* A new leaf. out (4): count, the new node, rows renumbered, head. */
 uint16_t nca_table_add_leaf(uint16_t *fields, size_t fields_len, uint64_t *numbers, size_t numbers_len,
                             int32_t *levels, size_t levels_len, uint16_t *ancestors, size_t ancestors_len,
+                            uint16_t *tally, size_t tally_len,
                             const uint16_t *scratch, size_t scratch_len,
                             uint16_t count, uint16_t parent, uint16_t label,
                             uint16_t *out, size_t out_len);
@@ -55,6 +62,7 @@ uint16_t nca_table_add_leaf(uint16_t *fields, size_t fields_len, uint64_t *numbe
 /* A new root over x, the root of a tree. out (4): count, the new node, rows renumbered, head. */
 uint16_t nca_table_add_root(uint16_t *fields, size_t fields_len, uint64_t *numbers, size_t numbers_len,
                             int32_t *levels, size_t levels_len, uint16_t *ancestors, size_t ancestors_len,
+                            uint16_t *tally, size_t tally_len,
                             const uint16_t *scratch, size_t scratch_len,
                             uint16_t count, uint16_t x,
                             uint16_t *out, size_t out_len);
@@ -62,6 +70,7 @@ uint16_t nca_table_add_root(uint16_t *fields, size_t fields_len, uint64_t *numbe
 /* The whole tree of root x under v, a node of another tree; x takes the label. out (2): rows renumbered, head. */
 uint16_t nca_table_link(uint16_t *fields, size_t fields_len, uint64_t *numbers, size_t numbers_len,
                         int32_t *levels, size_t levels_len, uint16_t *ancestors, size_t ancestors_len,
+                        uint16_t *tally, size_t tally_len,
                         uint16_t *scratch, size_t scratch_len,
                         uint16_t count, uint16_t x, uint16_t v, uint16_t label,
                         uint32_t *out, size_t out_len);
@@ -78,16 +87,17 @@ uint16_t nca_table_alike(const uint16_t *fields, size_t fields_len, const uint64
                          uint16_t count, uint16_t x, uint16_t y,
                          uint16_t *out, size_t out_len);
 
-/* out (1): 1 where the table follows all rules, else 0. */
+/* out (1): 1 where the table follows all rules and the tally is right, else 0. */
 uint16_t nca_table_inspect(const uint16_t *fields, size_t fields_len, const uint64_t *numbers, size_t numbers_len,
                            const int32_t *levels, size_t levels_len, const uint16_t *ancestors, size_t ancestors_len,
+                           const uint16_t *tally, size_t tally_len,
                            uint16_t *scratch, size_t scratch_len,
                            uint16_t count,
                            uint16_t *out, size_t out_len);
 
-/* Byte trees. A tree of capacity 128 is one run of NCA_TREE_BYTES bytes, with its count in it; 16-bit numbers low byte first.
+/* Byte trees. A tree of capacity 128 is one run of NCA_TREE_BYTES bytes, with its count and its tally in it; 16-bit numbers low byte first.
  * It keeps to one tree. The outcomes are those of the table form. A tree or an out slice of another length is a misfit. */
-#define NCA_TREE_BYTES 36866
+#define NCA_TREE_BYTES 56868
 
 /* An empty tree. */
 uint16_t nca_set_up(uint8_t *tree, size_t tree_len);

@@ -1,8 +1,9 @@
 //! Document 01's cases that are not starred, and parts that do not fit.
 
+use crate::checks::{check, equal};
 use crate::engine::{Table, ENTRIES, FIELDS, NUMBERS};
 use crate::lent::Lent;
-use crate::tally::{check, equal};
+use crate::tally;
 
 /// Capacities 0, 1, 32,768 and 32,769.
 pub fn capacities() -> String {
@@ -19,7 +20,17 @@ pub fn capacities() -> String {
     "4 tables".into()
 }
 
-/// Each part in turn one element short or long.
+/// Refusal 3 by every call that is lent a tally, whatever else it is given.
+pub fn refused(table: &mut Table, scratch: &mut Lent<u16>, (x, v, label): (u16, u16, u16), what: impl Fn() -> String) {
+    equal(table.add_leaf(scratch, v, label).map(|_| ()), Err(3), || format!("a leaf with {}", what()));
+    equal(table.add_first(scratch).map(|_| ()), Err(3), || format!("a first node with {}", what()));
+    equal(table.add_root(scratch, x).map(|_| ()), Err(3), || format!("a new root with {}", what()));
+    equal(table.link(scratch, x, v, label), Err(3), || format!("a link with {}", what()));
+    equal(table.inspect(scratch).map(|_| ()), Err(3), || format!("inspection with {}", what()));
+    equal(table.set_up(), Err(3), || format!("set-up with {}", what()));
+}
+
+/// Each part in turn one element short or long; the tally too, or empty, which questions are not lent.
 pub fn misfits() -> String {
     let good = {
         let mut table = Table::new(8, true);
@@ -37,19 +48,25 @@ pub fn misfits() -> String {
                 2 => table.levels = Lent::new(len(8), 0),
                 _ => table.ancestors = Lent::new(len(8 * ENTRIES), 0),
             }
-            let mut scratch = Lent::new(8, 0);
             let what = || format!("part {part} by {change}");
-            equal(table.add_leaf(&scratch, 9, 0).map(|_| ()), Err(3), what);
-            equal(table.add_first(&scratch).map(|_| ()), Err(3), what);
-            equal(table.add_root(&scratch, 9).map(|_| ()), Err(3), what);
-            equal(table.link(&mut scratch, 9, 9, 0), Err(3), what);
             equal(table.query(9, 9).map(|_| ()), Err(3), what);
             equal(table.alike(9, 9).map(|_| ()), Err(3), what);
-            equal(table.inspect(&mut scratch).map(|_| ()), Err(3), what);
-            equal(table.set_up(), Err(3), what);
+            refused(&mut table, &mut Lent::new(8, 0), (9, 9, 0), what);
         }
     }
-    "8 tables".into()
+    for length in tally::MISFITS {
+        let (mut table, what) = (good.clone(), || format!("a tally of {length} numbers"));
+        table.tally = Lent::new(length, 0);
+        equal(table.query(0, 0), Ok([0; 6]), what);
+        equal(table.alike(0, 0), Ok(1), what);
+        for given in [(0, 0, 1), (9, 9, 0), (0, 9, 10000)] {
+            refused(&mut table, &mut Lent::new(8, 0), given, what);
+            refused(&mut table, &mut Lent::new(9, 0), given, what);
+        }
+        table.count = 9;
+        refused(&mut table, &mut Lent::new(8, 0), (0, 0, 1), what);
+    }
+    "11 tables".into()
 }
 
 /// Out slices of growths and links of another length, with nothing else to refuse.

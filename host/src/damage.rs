@@ -1,13 +1,15 @@
 //! Damaged tables: every call ends, touches no guard, and on a refusal stores nothing (`engine` checks this at every call);
 //! inspection says what the naive rules say, questions and growths what the naive reading says; a table that passes answers as its plain tree does.
 
+use crate::checks::{check, equal};
 use crate::engine::{Grown, Reply, Table, ENTRIES, FIELDS, NONE, NUMBERS, ROOT, TREE};
 use crate::lent::Lent;
 use crate::lists::{List, MIXES, SHAPES};
+use crate::places;
 use crate::random::Random;
 use crate::reading::Reading;
 use crate::rules;
-use crate::tally::{check, equal};
+use crate::tally;
 use crate::variants;
 
 const DAMAGED: usize = 200_000;
@@ -95,6 +97,7 @@ fn filled(capacity: usize, random: &mut Random) -> Table {
     table.numbers.part_mut().iter_mut().for_each(|c| *c = number(count, random) % (1 << (8 + random.below(56))));
     table.levels.part_mut().iter_mut().for_each(|c| *c = random.below(9) as i32 - 4);
     table.ancestors.part_mut().iter_mut().for_each(|c| *c = number(count, random) as u16);
+    table.tally.part_mut().iter_mut().for_each(|c| *c = random.below(capacity + 2) as u16);
     table
 }
 
@@ -103,14 +106,25 @@ fn damaged(pool: &[Table], random: &mut Random) -> Table {
         return filled(1 + random.below(12), random);
     }
     let mut table = pool[random.below(pool.len())].clone();
-    match random.below(8) {
+    match random.below(9) {
         0 => table.count = [table.count.wrapping_sub(1), table.count + 1, 0, 65535, random.word() as u16][random.below(5)],
         1 => change_tree(&mut table, random),
         2 => (0..20).for_each(|_| change(&mut table, random)),
         3 => (0..4).for_each(|_| change(&mut table, random)),
-        _ => change(&mut table, random),
+        4..=7 => change(&mut table, random),
+        _ => (),
     }
+    recount(&mut table, random);
     table
+}
+
+/// The tally mostly true of what the rows hold now, so that other damage is told; else damaged too, or as it was.
+fn recount(table: &mut Table, random: &mut Random) {
+    match (random.below(4), tally::of(table)) {
+        (0, _) => places::change_tally(table, random),
+        (1..=2, Some(tally)) => table.tally.part_mut().copy_from_slice(&tally),
+        _ => (),
+    }
 }
 
 fn node(count: u16, random: &mut Random) -> u16 {
@@ -133,8 +147,10 @@ fn root(t: &Table, random: &mut Random) -> u16 {
 }
 
 /// A growth that is as it was read, and on a table that passes is served or refused as the plain list does it.
-fn grown(call: &str, after: &Table, good: Option<Reply<u16>>, found: Reply<Grown>, read: Reply<Grown>) {
+fn grown(call: &str, label: u16, tables: (&Table, &Table), good: Option<Reply<u16>>, found: Reply<Grown>, read: Reply<Grown>) {
+    let (before, after) = tables;
     equal(found, read, || format!("{call} on a damaged table"));
+    check(found.is_err() || tally::has_grown(before, after, label), || format!("the tally after {call} on a damaged table"));
     if let Some(expected) = good {
         equal(found.map(|g| g.node), expected, || format!("{call} on a table that passes"));
         check(found.is_err() || rules::passes(after), || format!("{call} broke the rules"));
@@ -150,17 +166,17 @@ fn grow(table: &Table, good: bool, random: &mut Random) {
     let (mut leaf, parent, label) = (table.clone(), node(table.count, random), [1, 7, 9999, 10000][random.below(4)]);
     let found = leaf.add_leaf(&scratch, parent, label);
     let expected = plain.clone().map(|mut p| p.add_leaf(length, parent, label));
-    grown("leaf", &leaf, expected, found, Reading::of(table).add_leaf(length, parent, label));
+    grown("leaf", label, (table, &leaf), expected, found, Reading::of(table).add_leaf(length, parent, label));
 
     let mut first = table.clone();
     let found = first.add_first(&scratch);
     let expected = plain.clone().map(|mut p| p.add_first(length));
-    grown("first node", &first, expected, found, Reading::of(table).add_first(length));
+    grown("first node", 0, (table, &first), expected, found, Reading::of(table).add_first(length));
 
     let (mut over, x) = (table.clone(), root(table, random));
     let found = over.add_root(&scratch, x);
     let expected = plain.clone().map(|mut p| p.add_root(length, x));
-    grown("new root", &over, expected, found, Reading::of(table).add_root(length, x));
+    grown("new root", 0, (table, &over), expected, found, Reading::of(table).add_root(length, x));
 }
 
 /// A link is served exactly where nothing else refuses it and inspection passes.

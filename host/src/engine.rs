@@ -1,8 +1,9 @@
 //! The engine's table form (include/vundreli.h), each call checked: guards untouched, and on a refusal nothing stored.
 
+use crate::checks::check;
 use crate::lent::{Lent, Word};
 use crate::random::Random;
-use crate::tally::check;
+use crate::tally;
 
 pub const NONE: u16 = 65535;
 pub const FIELDS: usize = 12;
@@ -44,6 +45,8 @@ mod raw {
             levels_len: usize,
             ancestors: *mut u16,
             ancestors_len: usize,
+            tally: *mut u16,
+            tally_len: usize,
             out: *mut u16,
             out_len: usize,
         ) -> u16;
@@ -56,6 +59,8 @@ mod raw {
             levels_len: usize,
             ancestors: *mut u16,
             ancestors_len: usize,
+            tally: *mut u16,
+            tally_len: usize,
             scratch: *const u16,
             scratch_len: usize,
             count: u16,
@@ -71,6 +76,8 @@ mod raw {
             levels_len: usize,
             ancestors: *mut u16,
             ancestors_len: usize,
+            tally: *mut u16,
+            tally_len: usize,
             scratch: *const u16,
             scratch_len: usize,
             count: u16,
@@ -88,6 +95,8 @@ mod raw {
             levels_len: usize,
             ancestors: *mut u16,
             ancestors_len: usize,
+            tally: *mut u16,
+            tally_len: usize,
             scratch: *const u16,
             scratch_len: usize,
             count: u16,
@@ -104,6 +113,8 @@ mod raw {
             levels_len: usize,
             ancestors: *mut u16,
             ancestors_len: usize,
+            tally: *mut u16,
+            tally_len: usize,
             scratch: *mut u16,
             scratch_len: usize,
             count: u16,
@@ -152,6 +163,8 @@ mod raw {
             levels_len: usize,
             ancestors: *const u16,
             ancestors_len: usize,
+            tally: *const u16,
+            tally_len: usize,
             scratch: *mut u16,
             scratch_len: usize,
             count: u16,
@@ -161,13 +174,14 @@ mod raw {
     }
 }
 
-/// A table's lent parts, and its count.
+/// A table's lent parts and its tally, and its count.
 #[derive(Clone)]
 pub struct Table {
     pub fields: Lent<u16>,
     pub numbers: Lent<u64>,
     pub levels: Lent<i32>,
     pub ancestors: Lent<u16>,
+    pub tally: Lent<u16>,
     pub count: u16,
     /// Whether every call compares all parts with a copy made before it: for small tables.
     pub watched: bool,
@@ -195,17 +209,20 @@ const LINKED: usize = 2;
 /// What a call says, or 01's refusal number.
 pub type Reply<T> = Result<T, u16>;
 
-/// A call that may store, with the table's parts as C takes them: each a pointer and a count. What follows them is written out.
+/// A call that may store, with the table's parts and its tally as C takes them: each a pointer and a count. What follows them is written out.
 macro_rules! lend_mut {
     ($call:ident, $table:ident, $($rest:expr),*) => {{
         let (f, n, l, a) = ($table.fields.part_mut(), $table.numbers.part_mut(), $table.levels.part_mut(), $table.ancestors.part_mut());
+        let w = $table.tally.part_mut();
         unsafe {
-            raw::$call(f.as_mut_ptr(), f.len(), n.as_mut_ptr(), n.len(), l.as_mut_ptr(), l.len(), a.as_mut_ptr(), a.len(), $($rest),*)
+            raw::$call(
+                f.as_mut_ptr(), f.len(), n.as_mut_ptr(), n.len(), l.as_mut_ptr(), l.len(), a.as_mut_ptr(), a.len(), w.as_mut_ptr(), w.len(), $($rest),*
+            )
         }
     }};
 }
 
-/// The same of a call that only reads.
+/// The same of a call that only reads, without the tally, which questions are not lent.
 macro_rules! lend {
     ($call:ident, $table:ident, $($rest:expr),*) => {{
         let (f, n, l, a) = ($table.fields.part(), $table.numbers.part(), $table.levels.part(), $table.ancestors.part());
@@ -221,6 +238,7 @@ impl Table {
             numbers: Lent::new(NUMBERS * capacity, 0),
             levels: Lent::new(capacity, 0),
             ancestors: Lent::new(ENTRIES * capacity, 0),
+            tally: Lent::new(tally::LENGTH, 0),
             count: 0,
             watched,
         }
@@ -233,6 +251,7 @@ impl Table {
         table.numbers.part_mut().iter_mut().for_each(|c| *c = random.word());
         table.levels.part_mut().iter_mut().for_each(|c| *c = random.word() as i32);
         table.ancestors.part_mut().iter_mut().for_each(|c| *c = random.word() as u16);
+        table.tally.part_mut().iter_mut().for_each(|c| *c = random.word() as u16);
         let reply = table.set_up();
         check(reply == Ok(()) && table.is_empty(), || format!("set-up at capacity {capacity} gave {reply:?}"));
         table
@@ -241,7 +260,8 @@ impl Table {
     fn is_empty(&self) -> bool {
         let fields = self.fields.part().chunks(FIELDS).all(|row| row == BLANK);
         let numbers = self.numbers.part().iter().all(|c| *c == 0) && self.levels.part().iter().all(|c| *c == 0);
-        fields && numbers && self.ancestors.part().iter().all(|c| *c == NONE) && self.count == 0
+        let ancestors = self.ancestors.part().iter().all(|c| *c == NONE);
+        fields && numbers && ancestors && self.tally.part().iter().all(|c| *c == 0) && self.count == 0
     }
 
     pub fn same_parts(&self, other: &Table) -> bool {
@@ -249,10 +269,12 @@ impl Table {
             && self.numbers.part() == other.numbers.part()
             && self.levels.part() == other.levels.part()
             && self.ancestors.part() == other.ancestors.part()
+            && self.tally.part() == other.tally.part()
     }
 
     fn is_guarded(&self) -> bool {
-        self.fields.is_guarded() && self.numbers.is_guarded() && self.levels.is_guarded() && self.ancestors.is_guarded()
+        let rows = self.fields.is_guarded() && self.numbers.is_guarded() && self.levels.is_guarded() && self.ancestors.is_guarded();
+        rows && self.tally.is_guarded()
     }
 
     fn copy(&self) -> Option<Table> {
@@ -401,8 +423,8 @@ impl Table {
 
     pub fn inspect(&self, scratch: &mut Lent<u16>) -> Reply<u16> {
         let (before, kept, mut out) = (self.copy(), scratch.clone(), Lent::<u16>::marked(1));
-        let (s, o) = (scratch.part_mut(), out.part_mut());
-        let code = lend!(nca_table_inspect, self, s.as_mut_ptr(), s.len(), self.count, o.as_mut_ptr(), o.len());
+        let (w, s, o) = (self.tally.part(), scratch.part_mut(), out.part_mut());
+        let code = lend!(nca_table_inspect, self, w.as_ptr(), w.len(), s.as_mut_ptr(), s.len(), self.count, o.as_mut_ptr(), o.len());
         self.after("inspection", code, before, false, &out);
         check(scratch.is_guarded(), || "inspection touched a guard of the scratch".into());
         check(code == 0 || kept.part() == scratch.part(), || format!("inspection gave {code} and changed the scratch"));

@@ -1,8 +1,10 @@
 //! What stays as it was (document 02, M-101). After a served growth every row other than the head and those below it is unchanged in every number, but for
-//! six named exceptions; after a served link so is every row of other trees; after a refused call all is. The parts are compared over their whole length,
+//! six named exceptions; after a served link so is every row of other trees; after a refused call all is. Of the tally a growth changes its
+//! label's entry and a link two, and the last is found anew. The parts are compared over their whole length,
 //! the rows not in use and the spare places among them, which hold anything here. The head answered is the one that document 01's rule gives.
 //! At capacities to 1,024 every call is looked at, above that each link and one growth in so many, since a look goes over the whole table.
 
+use crate::checks::{check, equal};
 use crate::engine::{
     Grown, Linked, Reply, Table, ENTRIES, FIELDS, FIRST, LAST, NEXT, NEXT_FREE, NONE, NUMBERS, PARENT, PATH, ROOT, SET_SIZE, SIZE, UPPER,
 };
@@ -10,7 +12,7 @@ use crate::lent::Lent;
 use crate::lists::{Mix, Shape, MIXES, SHAPES};
 use crate::random::Random;
 use crate::rules;
-use crate::tally::{check, equal};
+use crate::tally;
 use crate::variants;
 
 const POOL: usize = 120;
@@ -112,6 +114,14 @@ impl Growth {
         }
     }
 
+    /// The label of the new row.
+    fn label(self) -> u16 {
+        match self {
+            Growth::Leaf(_, label) => label,
+            _ => 0,
+        }
+    }
+
     fn call(self, table: &mut Table, scratch: &Lent<u16>) -> Reply<Grown> {
         match self {
             Growth::First => table.add_first(scratch),
@@ -187,6 +197,7 @@ impl Met {
         let what = |say: String| format!("{growth:?} on {} rows at capacity {}: {say}", before.count, capacity(before));
         equal((grown.node, after.count), (before.count, before.count + 1), || what("the new row".into()));
         equal(grown.head, growth.head(before), || what("the head".into()));
+        check(tally::has_grown(before, after, growth.label()), || what("the tally".into()));
         let (below, served) = (below(after, grown.head), Served::of(growth, after, grown));
         check(below[grown.node as usize], || what("the new row is not below the head".into()));
         equal(below.iter().filter(|b| **b).count(), grown.rows as usize, || what("rows below the head".into()));
@@ -204,11 +215,12 @@ impl Met {
     }
 
     /// A served link: the head, and every number of every row outside the two trees.
-    fn link(&mut self, (x, v): (u16, u16), before: &Table, after: &Table, linked: Linked) {
+    fn link(&mut self, (x, v, label): (u16, u16, u16), before: &Table, after: &Table, linked: Linked) {
         let what = |say: String| format!("link {x} {v} of {} rows at capacity {}: {say}", before.count, capacity(before));
         let (moved, receiving) = (first_row(before, x), first_row(before, v));
         equal(linked.head, u32::from(receiving), || what("the head".into()));
         equal(after.count, before.count, || what("the count".into()));
+        check(after.tally.part() == tally::linked(before.tally.part(), label), || what("the tally".into()));
         let trees: Vec<bool> = below(before, moved).into_iter().zip(below(before, receiving)).map(|(a, b)| a || b).collect();
         check(below(after, receiving) == trees, || what("the rows of the tree that both became".into()));
         for v in (0..capacity(before)).filter(|v| !trees[*v]) {
@@ -238,7 +250,7 @@ impl Met {
     fn join(&mut self, (x, v, label): (u16, u16, u16), table: &mut Table, scratch: &mut Lent<u16>) {
         let before = table.clone();
         match table.link(scratch, x, v, label) {
-            Ok(linked) => self.link((x, v), &before, table, linked),
+            Ok(linked) => self.link((x, v, label), &before, table, linked),
             Err(_) => self.refusal(&before, table),
         }
     }

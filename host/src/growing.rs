@@ -1,10 +1,11 @@
 //! Growths on a table filled with anything: what each reads before its first store, and the node, rows and head that it answers. Of a link, what it
-//! reads before it inspects the whole table, and the head.
+//! reads before it inspects the whole table, and the head; its entries of the tally it need not look at, since inspection has.
 
 use std::collections::BTreeSet;
 
 use crate::engine::{Grown, Reply, ENTRIES, NONE};
 use crate::reading::{Cause, Reading, Row, LEVELS, LIMIT};
+use crate::tally;
 
 /// A leaf that is not stored yet: its row, its parent, and the child before it.
 struct Leaf {
@@ -14,8 +15,17 @@ struct Leaf {
 }
 
 impl Reading<'_> {
-    fn fits(&self, scratch: usize) -> Reply<usize> {
-        self.capacity().and_then(|c| if scratch == c { Ok(c) } else { Err(3) })
+    /// The capacity of the parts, where tally and scratch fit too.
+    pub fn fits(&self, scratch: usize) -> Reply<usize> {
+        let tally = self.table.tally.part().len();
+        self.capacity().and_then(|c| if (tally, scratch) == (tally::LENGTH, c) { Ok(c) } else { Err(3) })
+    }
+
+    /// Last of all: the entry of the new node's label can grow.
+    fn is_countable(&mut self, capacity: usize, label: u16) -> Reply<()> {
+        self.label = Some(label);
+        let grown = tally::grown(self.table.tally.part(), capacity, label);
+        self.must(grown.is_ok(), Cause::Tally)
     }
 
     fn has_label(label: u16) -> Reply<()> {
@@ -38,6 +48,7 @@ impl Reading<'_> {
         let capacity = self.fits(scratch)?;
         self.has_room(capacity)?;
         self.has_count(capacity)?;
+        self.is_countable(capacity, 0)?;
         Ok(Grown { node: self.table.count, rows: 1, head: self.table.count })
     }
 
@@ -49,7 +60,9 @@ impl Reading<'_> {
         self.has_count(capacity)?;
         let tree = self.tree(parent)?;
         self.root(tree)?;
-        self.join(parent, 1)
+        let grown = self.join(parent, 1)?;
+        self.is_countable(capacity, label)?;
+        Ok(grown)
     }
 
     /// The tree of a root, as its first row records it.
@@ -69,7 +82,9 @@ impl Reading<'_> {
         self.has_count(capacity)?;
         self.tree_of_root(x)?;
         self.has_room(capacity)?;
-        self.join(x, -1)
+        let grown = self.join(x, -1)?;
+        self.is_countable(capacity, 0)?;
+        Ok(grown)
     }
 
     /// Document 01's new root: over that of row 0's tree, or the first node.
@@ -82,7 +97,9 @@ impl Reading<'_> {
         self.has_count(capacity)?;
         let tree = self.tree(0)?;
         let root = self.root(tree)?;
-        self.join(root, -1)
+        let grown = self.join(root, -1)?;
+        self.is_countable(capacity, 0)?;
+        Ok(grown)
     }
 
     /// What a link refuses before it inspects the table; else its head, the first row of v's tree.

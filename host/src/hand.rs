@@ -1,8 +1,10 @@
-//! Several trees in a table, by hand: links of small tables and of two paths, trees that are not shared, and records that lead nowhere.
+//! Several trees in a table, by hand: links of small tables and of two paths, trees that are not shared, and records that lead nowhere; and tallies, with
+//! their ties.
 
+use crate::checks::equal;
 use crate::engine::{Grown, Linked, Table, FIELDS, NONE, ROOT};
 use crate::lent::Lent;
-use crate::tally::equal;
+use crate::tally::LABELS;
 
 const PARENT: usize = 0;
 const LABEL: usize = 9;
@@ -117,6 +119,80 @@ fn paths(under: u16, rows: u32) {
     equal(table.inspect(&mut scratch), Ok(1), || "inspection of two paths".into());
 }
 
+/// The entries of a tally that are not 0, each with its label, and the last.
+fn tally(t: &Table) -> (Vec<(usize, u16)>, u16) {
+    let entries = t.tally.part()[..LABELS].iter().copied().enumerate().filter(|(_, entry)| *entry != 0);
+    (entries.collect(), t.tally.part()[LABELS])
+}
+
+/// Two first nodes and two leaves of label 5, which tie; a link by door 9 leaves 5 alone at the top, so that one entry down changes the last.
+fn tie_ended() {
+    let (mut table, mut scratch) = empty(6);
+    equal(tally(&table), (vec![], 0), || "the tally of no nodes".into());
+    (0..2).for_each(|x| equal(table.add_first(&scratch).map(|g| g.node), Ok(x), || "a first node".into()));
+    (2..4).for_each(|x| equal(table.add_leaf(&scratch, 0, 5).map(|g| g.node), Ok(x), || "a leaf".into()));
+    equal(tally(&table), (vec![(0, 2), (5, 2)], 0), || "a tie of labels 0 and 5".into());
+    equal(table.link(&mut scratch, 1, 0, 9).map(|l| l.head), Ok(0), || "a link by door 9".into());
+    equal(tally(&table), (vec![(0, 1), (5, 2), (9, 1)], 5), || "the tally after a link".into());
+    equal(table.add_leaf(&scratch, 1, 9).map(|g| g.node), Ok(4), || "a leaf".into());
+    equal(tally(&table), (vec![(0, 1), (5, 2), (9, 2)], 5), || "a tie of labels 5 and 9".into());
+    equal(table.add_leaf(&scratch, 1, 9).map(|g| g.node), Ok(5), || "a leaf".into());
+    equal(tally(&table), (vec![(0, 1), (5, 2), (9, 3)], 9), || "label 9 at the top".into());
+    equal(table.add_leaf(&scratch, 0, 5).map(|g| g.node), Err(2), || "a leaf of a full table".into());
+    equal(tally(&table), (vec![(0, 1), (5, 2), (9, 3)], 9), || "the tally after a refusal".into());
+    equal(table.inspect(&mut scratch), Ok(1), || "inspection".into());
+}
+
+/// A smaller label comes to a tie from below, and the last label of all is counted; a new root counts for label 0.
+fn tie_reached() {
+    let (mut table, mut scratch) = empty(7);
+    equal(table.add_first(&scratch).map(|g| g.node), Ok(0), || "a first node".into());
+    equal(tally(&table), (vec![(0, 1)], 0), || "one node".into());
+    (1..3).for_each(|x| equal(table.add_leaf(&scratch, 0, 9999).map(|g| g.node), Ok(x), || "a leaf".into()));
+    equal(tally(&table), (vec![(0, 1), (9999, 2)], 9999), || "label 9,999 at the top".into());
+    (3..5).for_each(|x| equal(table.add_leaf(&scratch, 0, 1).map(|g| g.node), Ok(x), || "a leaf".into()));
+    equal(tally(&table), (vec![(0, 1), (1, 2), (9999, 2)], 1), || "a tie of labels 1 and 9,999".into());
+    equal(table.add_root(&scratch, 0).map(|g| g.node), Ok(5), || "a new root".into());
+    equal(tally(&table), (vec![(0, 2), (1, 2), (9999, 2)], 0), || "a tie of three".into());
+    equal(table.inspect(&mut scratch), Ok(1), || "inspection".into());
+}
+
+/// Inspection says no of an entry or a last that is not true, at count 0 too; a link is then refused by 4.
+fn false_tally() {
+    for (label, entry) in [(0, 1), (0, 3), (3, 0), (4, 1), (9999, 1), (LABELS, 3), (LABELS, 65535)] {
+        let (mut table, mut scratch) = two_trees();
+        table.tally.part_mut()[label] = entry;
+        equal(table.inspect(&mut scratch.clone()), Ok(0), || format!("inspection of {entry} at {label}"));
+        equal(table.link(&mut scratch, 2, 0, 5), Err(4), || format!("a link with {entry} at {label}"));
+        let (mut table, mut scratch) = empty(4);
+        table.tally.part_mut()[label] = entry.max(1);
+        equal(table.inspect(&mut scratch), Ok(0), || format!("inspection of no nodes, {} at {label}", entry.max(1)));
+    }
+}
+
+/// An entry at the capacity: refusal 4, last of all; those of other labels may stand past it.
+fn full_entry() {
+    let (good, scratch) = two_trees();
+    for (label, entry) in [(0, 4), (3, 4), (3, 5), (9999, 65535)] {
+        let mut table = good.clone();
+        table.tally.part_mut()[label] = entry;
+        let refused = |label_of: usize| if label == label_of { Err(4) } else { Ok(3) };
+        for new in [3, 9999] {
+            equal(table.clone().add_leaf(&scratch, 0, new).map(|g| g.node), refused(new as usize), || format!("a leaf of label {new}"));
+        }
+        equal(table.clone().add_first(&scratch).map(|g| g.node), refused(0), || "a first node".into());
+        equal(table.clone().add_root(&scratch, 0).map(|g| g.node), refused(0), || "a new root".into());
+        equal(table.add_root(&scratch, 1).map(|_| ()), Err(10), || "10 comes before the tally".into());
+        equal(table.add_leaf(&scratch, 0, 0).map(|_| ()), Err(5), || "5 comes before the tally".into());
+        equal(table.add_leaf(&scratch, 3, label as u16).map(|_| ()), Err(1), || "1 comes before the tally".into());
+        table.tally.part_mut()[label] = 3;
+        if label == 0 {
+            equal(table.add_first(&scratch).map(|g| g.node), Ok(3), || "an entry one below the capacity".into());
+            equal(table.add_first(&scratch).map(|_| ()), Err(2), || "2 comes before the tally".into());
+        }
+    }
+}
+
 pub fn cases() -> String {
     trees_apart();
     root_astray();
@@ -125,5 +201,9 @@ pub fn cases() -> String {
     not_ours();
     paths(255, 1618);
     paths(128, 1831);
-    "7 tables".into()
+    tie_ended();
+    tie_reached();
+    false_tally();
+    full_entry();
+    "27 tables".into()
 }

@@ -1,12 +1,15 @@
-//! Random lists of calls, from set-up over anything: every outcome held against the plain list, and for smaller tables against the stored trees.
+//! Random lists of calls, from set-up over anything: every outcome held against the plain list, and for smaller tables against the stored trees; after
+//! every call, refused ones too, all numbers of the tally against a full count of the plain list's labels.
 
+use crate::cases;
+use crate::checks::{check, equal};
 use crate::engine::{Grown, Reply, Table};
 use crate::lent::Lent;
 use crate::plain::Plain;
 use crate::random::Random;
 use crate::rules;
 use crate::stored::Stored;
-use crate::tally::{check, equal};
+use crate::tally;
 
 /// How parents are chosen.
 #[derive(Clone, Copy, Debug)]
@@ -104,10 +107,12 @@ impl List {
         random.below(count) as u16
     }
 
-    /// A label out of few, so that lists of labels meet; now and then at the limits or past them.
+    /// A label out of few, so that lists of labels meet and entries of the tally tie; now and then any, at the limits or past them.
     fn label(random: &mut Random) -> u16 {
         if random.one_in(24) {
             [0, 9999, 10000, 65535][random.below(4)]
+        } else if random.one_in(24) {
+            1 + random.below(9999) as u16
         } else {
             1 + random.below(2) as u16
         }
@@ -172,6 +177,7 @@ impl List {
     ) {
         equal(found.map(|g| g.node), expected, || self.describe(call));
         equal(self.table.count as usize, self.plain.count(), || "the count".into());
+        self.tallied(call);
         let Ok(grown) = found else { return };
         if let Some(stored) = &mut self.stored {
             let expected = model(stored);
@@ -192,6 +198,7 @@ impl List {
         let found = self.table.link(&mut scratch, x, v, label);
         let expected = self.plain.link(fits, x, v, label);
         equal(found.map(|_| ()), expected.map(|_| ()), || self.describe(&format!("link {x} {v}")));
+        self.tallied("link");
         let (Ok(linked), Ok(joined)) = (found, expected) else { return };
         self.links += 1;
         if let Some(stored) = &mut self.stored {
@@ -216,6 +223,11 @@ impl List {
         }
     }
 
+    /// After each call: the tally is the full count.
+    fn tallied(&self, call: &str) {
+        check(self.table.tally.part() == tally::count(self.plain.all_labels()), || self.describe(&format!("the tally after {call}")));
+    }
+
     fn describe(&self, what: &str) -> String {
         format!("{what}, {} nodes at capacity {}, {:?}", self.plain.count(), self.capacity, self.shape)
     }
@@ -237,26 +249,40 @@ impl List {
         let x = self.node(random);
         let y = if random.one_in(8) { x } else { self.other(x, true, random) };
         equal(self.table.query(x, y), self.plain.query(x, y), || self.describe(&format!("question {x} {y}")));
+        self.tallied("question");
     }
 
     pub fn compare(&mut self, random: &mut Random) {
         let x = self.node(random);
         let y = self.other(x, true, random);
         equal(self.table.alike(x, y), self.plain.alike(x, y), || self.describe(&format!("alike {x} {y}")));
+        self.tallied("alike");
     }
 
     pub fn inspect(&mut self, random: &mut Random) {
         let mut scratch = self.lend(random);
         let expected = if scratch.part().len() == self.capacity { Ok(1) } else { Err(3) };
         equal(self.table.inspect(&mut scratch), expected, || self.describe("inspection"));
+        self.tallied("inspection");
+    }
+
+    /// Calls that are lent a tally of another length.
+    fn misfit(&mut self, random: &mut Random) {
+        let (mut scratch, x, v, label) = (self.lend(random), self.node(random), self.node(random), List::label(random));
+        let length = tally::MISFITS[random.below(tally::MISFITS.len())];
+        let kept = std::mem::replace(&mut self.table.tally, Lent::new(length, random.word() as u16));
+        cases::refused(&mut self.table, &mut scratch, (x, v, label), || format!("a tally of {length} numbers"));
+        self.table.tally = kept;
+        self.tallied("a misfit");
     }
 
     /// One call of any kind.
     pub fn call(&mut self, random: &mut Random) {
-        match random.below(8) {
-            0..=3 => self.grow(random),
-            4 | 5 => self.ask(random),
-            6 => self.compare(random),
+        match random.below(32) {
+            0..=15 => self.grow(random),
+            16..=23 => self.ask(random),
+            24..=27 => self.compare(random),
+            28 => self.misfit(random),
             _ => self.inspect(random),
         }
     }

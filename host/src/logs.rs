@@ -3,10 +3,10 @@
 use std::io::Write;
 use std::process::{Command, Stdio};
 
+use crate::checks::equal;
 use crate::plain::Plain;
 use crate::random::Random;
 use crate::stored::Stored;
-use crate::tally::equal;
 
 const CAPACITY: usize = 128;
 const LONGEST: usize = 16_384;

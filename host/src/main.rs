@@ -4,6 +4,7 @@
 
 mod asking;
 mod cases;
+mod checks;
 mod damage;
 mod engine;
 mod frame;
@@ -56,9 +57,9 @@ const GROUPS: [(&str, fn() -> String); 22] = [
 fn main() -> ExitCode {
     let (mut passed, mut failed) = (0, 0);
     for (name, run) in GROUPS {
-        let before = tally::counts();
+        let before = checks::counts();
         let said = run();
-        let (compared, different) = (tally::counts().0 - before.0, tally::counts().1 - before.1);
+        let (compared, different) = (checks::counts().0 - before.0, checks::counts().1 - before.1);
         println!("{name}: {said}, {compared} comparisons, {different} differences");
         if different == 0 {
             passed += 1

@@ -5,6 +5,7 @@ use crate::engine::{Table, DEPTH, ENTRIES, FIELDS, LABEL, NEXT_FREE, NONE, NUMBE
 use crate::lent::Lent;
 use crate::random::Random;
 use crate::reading::LIMIT;
+use crate::tally::{LABELS, MISFITS};
 
 /// A row that is damaged: mostly one of those that a call reads, as often an early one as a late one.
 fn row(table: &Table, read: &[u16], random: &mut Random) -> u16 {
@@ -96,13 +97,41 @@ fn change_count(t: &mut Table, random: &mut Random) {
     t.count = [t.count.wrapping_sub(1), t.count.wrapping_add(1), 0, capacity, capacity + 1, NONE][random.below(6)];
 }
 
+/// A label that a row carries or a call names, or any.
+fn label(t: &Table, random: &mut Random) -> usize {
+    let v = random.below(t.levels.part().len());
+    let carried = t.fields.part()[FIELDS * v + LABEL] as usize;
+    let labels = [0, 0, 1, 1, 9999, 9999, 2, 7, carried.min(LABELS - 1), random.below(LABELS)];
+    labels[random.below(labels.len())]
+}
+
+/// The tally changed where it matters: an entry one up or down, two swapped, one at the capacity or past it, one that ties with the greatest, or another label
+/// at the end: the greatest of those that tie, or none at all.
+pub fn change_tally(t: &mut Table, random: &mut Random) {
+    let (capacity, label, other) = (t.levels.part().len() as u16, label(t, random), label(t, random));
+    let tally = t.tally.part_mut();
+    let greatest = *tally[..LABELS].iter().max().expect("an entry");
+    let last = tally[..LABELS].iter().rposition(|entry| *entry == greatest).expect("a label");
+    match random.below(8) {
+        0 => tally[label] = tally[label].wrapping_add(1),
+        1 => tally[label] = tally[label].wrapping_sub(1),
+        2 => tally.swap(label, other),
+        3 => tally[label] = capacity,
+        4 => tally[label] = [capacity - 1, capacity + 1, NONE][random.below(3)],
+        5 => tally[label] = greatest,
+        6 => tally[LABELS] = [other, last, last][random.below(3)] as u16,
+        _ => tally[LABELS] = [LABELS as u16, NONE, tally[LABELS] + 1][random.below(3)],
+    }
+}
+
 /// A part one element short or long.
 fn change_part(t: &mut Table, random: &mut Random) {
     let length = |old: usize, random: &mut Random| if random.one_in(2) { old + 1 } else { old - 1 };
-    match random.below(4) {
+    match random.below(5) {
         0 => t.fields = Lent::new(length(t.fields.part().len(), random), 0),
         1 => t.numbers = Lent::new(length(t.numbers.part().len(), random), 0),
         2 => t.levels = Lent::new(length(t.levels.part().len(), random), 0),
+        3 => t.tally = Lent::new(MISFITS[random.below(MISFITS.len())], 0),
         _ => t.ancestors = Lent::new(length(t.ancestors.part().len(), random), 0),
     }
 }
@@ -112,7 +141,7 @@ pub fn damaged(table: &Table, read: &[u16], random: &mut Random) -> Table {
     let mut t = table.clone();
     for _ in 0..[1, 1, 1, 2, 3, 4][random.below(6)] {
         let (v, other, third) = (row(&t, read, random) as usize, row(&t, read, random), row(&t, read, random));
-        match random.below(32) {
+        match random.below(36) {
             0 => change_count(&mut t, random),
             1..=3 => change_loop(&mut t, v, other, random),
             4..=6 => change_entry(&mut t, v, other, random),
@@ -120,6 +149,7 @@ pub fn damaged(table: &Table, read: &[u16], random: &mut Random) -> Table {
             10..=12 => change_limit(&mut t, v, other, random),
             13..=15 => change_start(&mut t, v, other, third, random),
             16..=19 => spoil(&mut t, v, random),
+            20..=23 => change_tally(&mut t, random),
             _ => change_field(&mut t, v, other, random),
         }
     }

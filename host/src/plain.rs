@@ -27,6 +27,11 @@ impl Plain {
         self.parent.len()
     }
 
+    /// The label of every node.
+    pub fn all_labels(&self) -> &[u16] {
+        &self.label
+    }
+
     pub fn is_root(&self, x: u16) -> bool {
         self.parent[x as usize] == NONE
     }

@@ -47,6 +47,7 @@ pub enum Cause {
     MetTwice,
     OtherSize,
     Entries,
+    Tally,
 }
 
 /// A row that holds nothing out of range.
@@ -97,13 +98,15 @@ pub struct Reading<'a> {
     /// The rows of which something was read, in that order.
     pub rows: Vec<u16>,
     seen: BTreeSet<u16>,
+    /// The label whose entry of the tally was read.
+    pub label: Option<u16>,
     /// Why the table was refused by 4.
     pub cause: Option<Cause>,
 }
 
 impl Reading<'_> {
     pub fn of(table: &Table) -> Reading<'_> {
-        Reading { table, rows: Vec::new(), seen: BTreeSet::new(), cause: None }
+        Reading { table, rows: Vec::new(), seen: BTreeSet::new(), label: None, cause: None }
     }
 
     /// Refusal 4 unless something holds.

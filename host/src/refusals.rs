@@ -3,13 +3,14 @@
 
 use std::collections::BTreeMap;
 
+use crate::checks::{check, equal};
 use crate::engine::{Grown, Reply, Table, ENTRIES, FIELDS, NONE, NUMBERS, TREE};
 use crate::lent::Lent;
 use crate::lists::{List, MIXES, SHAPES};
 use crate::places::damaged;
 use crate::random::Random;
 use crate::reading::{Cause, Reading};
-use crate::tally::{check, equal};
+use crate::tally;
 use crate::trees;
 
 const POOL: usize = 240;
@@ -59,17 +60,20 @@ impl Call {
         KINDS[place].0
     }
 
-    /// What the engine says; the table stays as it is. Document 01's new root has only the form of bytes.
-    fn found(self, table: &Table, scratch: &Lent<u16>) -> Reply<Values> {
-        let mut table = table.clone();
-        match self {
-            Call::Question(x, y) => table.query(x, y).map(Vec::from),
-            Call::Alike(x, y) => table.alike(x, y).map(|same| vec![same.into()]),
-            Call::First => table.add_first(scratch).map(grown),
-            Call::Leaf(parent, label) => table.add_leaf(scratch, parent, label).map(grown),
-            Call::Root(x) => table.add_root(scratch, x).map(grown),
-            Call::RootOfFirstTree => trees::add_root_to(&table).map(grown),
-        }
+    /// What the engine says; the table stays as it is. Document 01's new root has only the form of bytes. A growth that is served leaves the tally that the
+    /// rule gives.
+    fn found(self, before: &Table, scratch: &Lent<u16>) -> Reply<Values> {
+        let mut table = before.clone();
+        let (label, found) = match self {
+            Call::Question(x, y) => return table.query(x, y).map(Vec::from),
+            Call::Alike(x, y) => return table.alike(x, y).map(|same| vec![same.into()]),
+            Call::RootOfFirstTree => return trees::add_root_to(&table).map(grown),
+            Call::First => (0, table.add_first(scratch)),
+            Call::Leaf(parent, label) => (label, table.add_leaf(scratch, parent, label)),
+            Call::Root(x) => (0, table.add_root(scratch, x)),
+        };
+        check(found.is_err() || tally::has_grown(before, &table, label), || format!("the tally after {self:?}"));
+        found.map(grown)
     }
 
     /// What the naive reading says.
@@ -109,7 +113,7 @@ impl Met {
     /// Every kind of call met every outcome that it has, every cause was met, and damage changed answers.
     fn is_whole(&self) -> bool {
         let kinds = KINDS.iter().all(|(kind, codes)| codes.iter().all(|code| self.outcomes.contains_key(&(*kind, *code))));
-        kinds && self.causes.len() == Cause::Entries as usize + 1 && self.changed > 0
+        kinds && self.causes.len() == Cause::Tally as usize + 1 && self.changed > 0
     }
 }
 
@@ -167,7 +171,7 @@ fn calls(table: &Table, random: &mut Random) -> Vec<Call> {
     calls
 }
 
-/// A table that has anything in the rows that were not read.
+/// A table that has anything in the rows that were not read, and in all entries of the tally but the one that was.
 fn scrambled(table: &Table, reading: &Reading, random: &mut Random) -> Table {
     let mut t = table.clone();
     for v in (0..table.levels.part().len()).filter(|v| !reading.has_read(*v as u16)) {
@@ -176,13 +180,18 @@ fn scrambled(table: &Table, reading: &Reading, random: &mut Random) -> Table {
         t.levels.part_mut()[v] = random.word() as i32;
         t.ancestors.part_mut()[ENTRIES * v..][..ENTRIES].iter_mut().for_each(|c| *c = random.word() as u16);
     }
+    for (label, entry) in t.tally.part_mut().iter_mut().enumerate() {
+        if reading.label != Some(label as u16) {
+            *entry = random.word() as u16;
+        }
+    }
     t
 }
 
 /// One call on a damaged table, and on one that differs from it only in rows that are not read.
 fn run(call: Call, good: &Table, table: &Table, met: &mut Met, random: &mut Random) {
     let capacity = table.levels.part().len();
-    if matches!(call, Call::RootOfFirstTree) && Reading::of(table).capacity() != Ok(trees::CAPACITY) {
+    if matches!(call, Call::RootOfFirstTree) && Reading::of(table).fits(capacity) != Ok(trees::CAPACITY) {
         return;
     }
     let longer = random.one_in(60) && !matches!(call, Call::RootOfFirstTree);

@@ -1,10 +1,11 @@
-//! The six rules of inspection, naively, on any table; and the plain trees that a table records.
+//! The six rules of inspection and the tally, naively, on any table; and the plain trees that a table records.
 
 use std::collections::HashSet;
 
 use crate::engine::{Table, ENTRIES, FIELDS, NONE, NUMBERS};
 use crate::plain::Plain;
 use crate::powers::POWERS;
+use crate::tally;
 
 /// A table's rows below its count as numbers of any width.
 struct Rows {
@@ -208,6 +209,7 @@ pub fn passes(t: &Table) -> bool {
         && rows.has_sizes()
         && rows.has_spans()
         && rows.has_entries(t)
+        && t.tally.part() == tally::count(&rows.label)
 }
 
 /// The plain trees of a table that passes: along the line from a first row to its root parents turn round.

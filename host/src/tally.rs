@@ -1,26 +1,64 @@
-//! Counts comparisons and shows the first differences.
+//! The tally of document 02, naively: a full count of labels, and the label that most nodes carry. What a growth and a link make of any tally, good or
+//! damaged: an entry up, or one down and one up, and the last found anew.
 
-use std::sync::atomic::{AtomicU64, Ordering::Relaxed};
+use crate::engine::{Reply, Table, FIELDS, LABEL};
 
-static COMPARED: AtomicU64 = AtomicU64::new(0);
-static DIFFERENT: AtomicU64 = AtomicU64::new(0);
+/// The labels, 0 to 9,999; the last entry stands behind theirs.
+pub const LABELS: usize = 10_000;
+pub const LENGTH: usize = LABELS + 1;
 
-const SHOWN: u64 = 10;
+/// Lengths that are misfit.
+pub const MISFITS: [usize; 3] = [0, LENGTH - 1, LENGTH + 1];
 
-/// One comparison; `what` is made only where it fails.
-pub fn check(holds: bool, what: impl FnOnce() -> String) {
-    COMPARED.fetch_add(1, Relaxed);
-    if !holds && DIFFERENT.fetch_add(1, Relaxed) < SHOWN {
-        println!("  difference: {}", what());
+/// The label whose entry is the greatest, the smaller of two.
+fn most(entries: &[u16]) -> u16 {
+    let mut most = 0;
+    for (label, entry) in entries.iter().enumerate() {
+        if *entry > entries[most] {
+            most = label;
+        }
     }
+    most as u16
 }
 
-pub fn equal<T: PartialEq + std::fmt::Debug>(found: T, expected: T, what: impl FnOnce() -> String) {
-    let same = found == expected;
-    check(same, || format!("{}: found {found:?}, expected {expected:?}", what()));
+fn with_most(mut tally: Vec<u16>) -> Vec<u16> {
+    tally[LABELS] = most(&tally[..LABELS]);
+    tally
 }
 
-/// Comparisons and differences so far.
-pub fn counts() -> (u64, u64) {
-    (COMPARED.load(Relaxed), DIFFERENT.load(Relaxed))
+/// The tally of nodes with these labels.
+pub fn count(labels: &[u16]) -> Vec<u16> {
+    let mut tally = vec![0; LENGTH];
+    labels.iter().for_each(|label| tally[*label as usize] += 1);
+    with_most(tally)
+}
+
+/// The full count over a table's rows; none where a row has no label or the count is above the capacity.
+pub fn of(t: &Table) -> Option<Vec<u16>> {
+    let rows = t.fields.part().get(..FIELDS * t.count as usize)?;
+    let labels: Vec<u16> = rows.chunks(FIELDS).map(|row| row[LABEL]).collect();
+    labels.iter().all(|label| (*label as usize) < LABELS).then(|| count(&labels))
+}
+
+/// A tally after a node more of this label; refusal 4 where its entry is at the capacity or past it.
+pub fn grown(tally: &[u16], capacity: usize, label: u16) -> Reply<Vec<u16>> {
+    let mut tally = tally.to_vec();
+    if tally[label as usize] as usize >= capacity {
+        return Err(4);
+    }
+    tally[label as usize] += 1;
+    Ok(with_most(tally))
+}
+
+/// A tally after a root took this label.
+pub fn linked(tally: &[u16], label: u16) -> Vec<u16> {
+    let mut tally = tally.to_vec();
+    tally[0] -= 1;
+    tally[label as usize] += 1;
+    with_most(tally)
+}
+
+/// Whether a growth by a node of this label left the tally that the rule gives.
+pub fn has_grown(before: &Table, after: &Table, label: u16) -> bool {
+    grown(before.tally.part(), before.levels.part().len(), label).as_deref() == Ok(after.tally.part())
 }

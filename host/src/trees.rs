@@ -1,14 +1,18 @@
 //! Byte trees of capacity 128 (docs/FORMAT.md): every call has the outcome of the table form on the decoded tree, good or damaged. A byte tree's new root
 //! names none: it goes over the first tree's.
 
+use crate::checks::{check, equal};
 use crate::engine::{Grown, Reply, Table, NONE};
 use crate::lent::Lent;
 use crate::random::Random;
 use crate::reading::Reading;
-use crate::tally::{check, equal};
+use crate::tally::{self, LABELS};
 
 pub const CAPACITY: usize = 128;
-const BYTES: usize = 36_866;
+const BYTES: usize = 56_868;
+/// The places of the numbers and of the tally.
+const NUMBERS: usize = 3_074;
+const TALLY: usize = 36_866;
 /// The bytes that a growth answers.
 const GROWN: usize = 6;
 const LISTS: usize = 12;
@@ -23,7 +27,7 @@ mod raw {
     }
 }
 
-/// A tree's bytes: count, fields, numbers, levels, ancestor entries, low byte first.
+/// A tree's bytes: count, fields, numbers, levels, ancestor entries and tally, low byte first.
 fn encode(t: &Table) -> Vec<u8> {
     let mut bytes = Vec::with_capacity(BYTES);
     bytes.extend(t.count.to_le_bytes());
@@ -31,22 +35,25 @@ fn encode(t: &Table) -> Vec<u8> {
     t.numbers.part().iter().for_each(|c| bytes.extend(c.to_le_bytes()));
     t.levels.part().iter().for_each(|c| bytes.extend(c.to_le_bytes()));
     t.ancestors.part().iter().for_each(|c| bytes.extend(c.to_le_bytes()));
+    t.tally.part().iter().for_each(|c| bytes.extend(c.to_le_bytes()));
     bytes
 }
 
-fn decode(bytes: &[u8]) -> Table {
-    let mut t = Table::new(CAPACITY, false);
-    let mut rest = bytes;
-    let mut take = |n: usize| {
-        let (word, after) = rest.split_at(n);
-        rest = after;
-        word.to_vec()
-    };
-    t.count = u16::from_le_bytes(take(2).try_into().unwrap());
-    t.fields.part_mut().iter_mut().for_each(|c| *c = u16::from_le_bytes(take(2).try_into().unwrap()));
-    t.numbers.part_mut().iter_mut().for_each(|c| *c = u64::from_le_bytes(take(8).try_into().unwrap()));
-    t.levels.part_mut().iter_mut().for_each(|c| *c = i32::from_le_bytes(take(4).try_into().unwrap()));
-    t.ancestors.part_mut().iter_mut().for_each(|c| *c = u16::from_le_bytes(take(2).try_into().unwrap()));
+/// The next N bytes.
+fn take<const N: usize>(bytes: &mut &[u8]) -> [u8; N] {
+    let (word, rest) = bytes.split_at(N);
+    *bytes = rest;
+    word.try_into().expect("a word")
+}
+
+fn decode(mut bytes: &[u8]) -> Table {
+    let (mut t, b) = (Table::new(CAPACITY, false), &mut bytes);
+    t.count = u16::from_le_bytes(take(b));
+    t.fields.part_mut().iter_mut().for_each(|c| *c = u16::from_le_bytes(take(b)));
+    t.numbers.part_mut().iter_mut().for_each(|c| *c = u64::from_le_bytes(take(b)));
+    t.levels.part_mut().iter_mut().for_each(|c| *c = i32::from_le_bytes(take(b)));
+    t.ancestors.part_mut().iter_mut().for_each(|c| *c = u16::from_le_bytes(take(b)));
+    t.tally.part_mut().iter_mut().for_each(|c| *c = u16::from_le_bytes(take(b)));
     t
 }
 
@@ -129,6 +136,7 @@ pub fn add_root_to(table: &Table) -> Reply<Grown> {
     let mut tree = Tree::of(&bytes);
     let reply = tree.add_root(GROWN);
     check(reply.is_ok() || tree.bytes.part() == bytes, || format!("new root on bytes gave {reply:?} and stored"));
+    check(reply.is_err() || tally::has_grown(table, &decode(tree.bytes.part()), 0), || "the tally after a new root on bytes".into());
     reply
 }
 
@@ -184,7 +192,13 @@ pub fn lists() -> String {
         let mut empty = Table::new(CAPACITY, false);
         equal(empty.set_up(), Ok(()), || "set-up".into());
         check(tree.bytes.part() == encode(&empty), || "an empty byte tree".into());
-        (0..CAPACITY + 12).for_each(|_| step(&mut tree, &mut random));
+        for _ in 0..CAPACITY + 12 {
+            step(&mut tree, &mut random);
+            let table = decode(tree.bytes.part());
+            check(tally::of(&table).as_deref() == Some(table.tally.part()), || {
+                format!("the tally of a byte tree of {} nodes", table.count)
+            });
+        }
     }
     format!("{LISTS} lists")
 }
@@ -200,11 +214,13 @@ pub fn damaged() -> String {
         }
         let mut tree = Tree { bytes: good.bytes.clone() };
         for _ in 0..1 + random.below(4) {
-            let place = match random.below(4) {
+            let rows = (1 + round / 24).min(CAPACITY);
+            let place = match random.below(5) {
                 0 => random.below(BYTES),
                 1 => random.below(2),
-                2 => 2 + random.below(24 * (1 + round / 24).min(CAPACITY)),
-                _ => 3074 + random.below(16 * (1 + round / 24).min(CAPACITY)),
+                2 => 2 + random.below(24 * rows),
+                3 => NUMBERS + random.below(16 * rows),
+                _ => TALLY + [0, 2, 4, 6, 2 * LABELS][random.below(5)] + random.below(2),
             };
             tree.bytes.part_mut()[place] = if random.one_in(2) { random.word() as u8 } else { random.below(4) as u8 };
         }
@@ -215,7 +231,7 @@ pub fn damaged() -> String {
 
 /// Trees and answers one byte short or long, and empty ones.
 pub fn misfits() -> String {
-    for len in [0, 1, BYTES - 1, BYTES + 1] {
+    for len in [0, 1, TALLY, BYTES - 2, BYTES - 1, BYTES + 1, BYTES + 2] {
         let mut tree = Tree::of(&vec![0; len]);
         let what = || format!("a byte tree of {len} bytes");
         equal(tree.set_up(), Err(3), what);
@@ -233,5 +249,5 @@ pub fn misfits() -> String {
         equal(tree.query(0, 0, len), Err(3), || format!("question with an answer of {len} bytes"));
     }
     check(tree.bytes.part() == before, || "a misfit was stored".into());
-    "5 trees".into()
+    "8 trees".into()
 }

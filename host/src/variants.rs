@@ -1,8 +1,10 @@
-//! Tables that no list of calls makes: the trees of a good table with other paths, set sizes and spans, at the edges of the rules.
+//! Tables that no list of calls makes: the trees of a good table with other labels, paths, set sizes and spans, at the edges of the rules.
 
-use crate::engine::{Table, DEPTH, ENTRIES, FIELDS, FIRST, LAST, NEXT, NONE, NUMBERS, PARENT, PATH, ROOT, SET_SIZE, SIZE, UPPER};
+use crate::engine::{Table, DEPTH, ENTRIES, FIELDS, FIRST, LABEL, LAST, NEXT, NONE, NUMBERS, PARENT, PATH, ROOT, SET_SIZE, SIZE, UPPER};
+use crate::places;
 use crate::powers::POWERS;
 use crate::random::Random;
+use crate::tally;
 
 fn get(t: &Table, v: usize, k: usize) -> u16 {
     t.fields.part()[FIELDS * v + k]
@@ -43,6 +45,20 @@ fn link_children(t: &mut Table, n: usize, random: &mut Random) {
 fn record_roots(t: &mut Table, n: usize, random: &mut Random) {
     for v in (0..n).filter(|v| get(t, *v, PARENT) != NONE).collect::<Vec<usize>>() {
         put(t, v, ROOT, random.word() as u16);
+    }
+}
+
+/// Any labels for rows that are not the root of their tree, out of few, so that they tie; the tally true to them, or damaged.
+fn choose_labels(t: &mut Table, n: usize, random: &mut Random) {
+    for v in (0..n as u16).filter(|v| t.root_of(*v) != *v).collect::<Vec<u16>>() {
+        if random.one_in(2) {
+            put(t, v as usize, LABEL, [0, 1, 2, 9999][random.below(4)]);
+        }
+    }
+    let tally = tally::of(t).expect("labels of rows in use");
+    t.tally.part_mut().copy_from_slice(&tally);
+    if random.one_in(12) {
+        places::change_tally(t, random);
     }
 }
 
@@ -129,6 +145,7 @@ pub fn of(table: &Table, random: &mut Random) -> Table {
     let (mut t, n) = (table.clone(), table.count as usize);
     if n != 0 {
         link_children(&mut t, n, random);
+        choose_labels(&mut t, n, random);
         record_roots(&mut t, n, random);
         lead_paths(&mut t, n, random);
         choose_set_sizes(&mut t, n, random);

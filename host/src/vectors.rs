@@ -1,9 +1,11 @@
-//! Written lists of calls with every reply (host/vectors/lists.txt says how), and the tables that some of them leave; the stored trees beside them.
+//! Written lists of calls with every reply (host/vectors/lists.txt says how), and the tables and tallies that some of them leave; the stored trees beside
+//! them, and after every call a full count of their labels beside the tally.
 
+use crate::checks::{check, equal};
 use crate::engine::{Grown, Reply, Table, ENTRIES, FIELDS, NUMBERS, ROOT};
 use crate::lent::Lent;
 use crate::stored::Stored;
-use crate::tally::{check, equal};
+use crate::tally;
 
 const LISTS: &str = include_str!("../vectors/lists.txt");
 
@@ -66,6 +68,14 @@ impl List {
         Ok(vec![i64::from(linked.rows), i64::from(linked.head)])
     }
 
+    /// A call with a tally of this length.
+    fn call_with(&mut self, call: &str, length: usize) -> Numbers {
+        let kept = std::mem::replace(&mut self.table.tally, Lent::new(length, 7));
+        let found = self.call(call);
+        self.table.tally = kept;
+        found
+    }
+
     fn call(&mut self, call: &str) -> Numbers {
         let given = numbers(call);
         let arg = |i: usize| given[i] as u16;
@@ -96,7 +106,22 @@ impl List {
 
     /// A call and its reply.
     fn play(&mut self, call: &str, reply: &str) {
-        equal(self.call(call), written(reply), || format!("{call} in list {}", self.number));
+        let found = match call.split_once(" tally ") {
+            Some((call, length)) => self.call_with(call, length.parse().expect("a length")),
+            None => self.call(call),
+        };
+        equal(found, written(reply), || format!("{call} in list {}", self.number));
+        let labels: Vec<u16> = self.stored.rows.iter().map(|row| row.label).collect();
+        check(self.table.tally.part() == tally::count(&labels), || format!("the tally after {call} in list {}", self.number));
+    }
+
+    /// The tally: labels and their entries where these are not 0, and the last.
+    fn tally(&mut self, written: &str) {
+        let (entries, most) = written.split_once(" most ").expect("entries and the last");
+        let mut expected = vec![0; tally::LENGTH];
+        numbers(entries).chunks(2).for_each(|pair| expected[pair[0] as usize] = pair[1] as u16);
+        expected[tally::LABELS] = most.parse().expect("a label");
+        check(self.table.tally.part() == expected, || format!("the tally after list {}", self.number));
     }
 
     /// The next row of the table.
@@ -135,6 +160,8 @@ pub fn lists() -> String {
             calls += 1;
         } else if let Some(row) = line.strip_prefix("row ") {
             list.row(row);
+        } else if let Some(tally) = line.strip_prefix("tally ") {
+            list.tally(tally);
         } else if let Some(totals) = line.strip_prefix("end ") {
             list.end(totals);
         }

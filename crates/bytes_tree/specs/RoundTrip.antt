@@ -10,6 +10,7 @@ use lib.Seq.{take-at, take-add, take-all, drop-drop, drop-append-add, getD-take,
 use Rattle.table.specs.declared.state.State.{State}
 use Rattle.table.specs.Parts.{Parts, partsOf}
 use Rattle.table.specs.Capacity.{Fits}
+use Rattle.tally.specs.Layout.{tallyLength}
 use Rattle.laws.specs.Tabulate.{tabulate, tabulateFrom, tabulated}
 use Rattle.byte_numbers.specs.Bytes.{value, bytes, valueAt}
 use Rattle.byte_numbers.specs.BytesLaws.{length-bytes, value-bytes, bytes-value}
@@ -17,7 +18,7 @@ use Rattle.byte_numbers.specs.Sign.{signed, unsigned, Levels32}
 use Rattle.byte_numbers.specs.SignLaws.{signed-unsigned, unsigned-signed, unsigned-small}
 use Rattle.bytes_tree.specs.Column.{numbersAt, levelsAt, columnOf}
 use Rattle.bytes_tree.specs.ColumnLaws.{length-column}
-use Rattle.bytes_tree.specs.Tree.{treeRows, fieldCount, numberCount, entryCount, treeBytes, fieldsPlace, numbersPlace, levelsPlace, ancestorsPlace, stateIn, partsIn, encoded, Under, InBytes}
+use Rattle.bytes_tree.specs.Tree.{treeRows, fieldCount, numberCount, entryCount, treeBytes, fieldsPlace, numbersPlace, levelsPlace, ancestorsPlace, tallyPlace, stateIn, partsIn, tallyIn, Held, encoded, Under, InBytes}
 
 -- Columns, over any width
 
@@ -117,14 +118,35 @@ parts-eq : {f m a : List ℕ} {l : List ℤ} (t : Parts) → f ≡ t .fields →
 parts-eq t p q r h = rw (p, q, r, h)
 
 -- a tree whose numbers fit is read back
-module _ (s : State) (t : Parts) (f : Fits treeRows t) (g : InBytes s t) where
-  pub state-back : stateIn (encoded s t) ≡ s
+module _ (s : State) (t : Parts) (w : List ℕ) (f : Fits treeRows t) (h : length w ≡ tallyLength) (g : InBytes s t w) where
+  pub state-back : stateIn (encoded s t w) ≡ s
   unfolding stateIn encoded
   state-back = state-eq s (value-bytes 2 (s .count) (g .count))
 
-  pub parts-back : partsIn (encoded s t) ≡ t
+  pub parts-back : partsIn (encoded s t w) ≡ t
   unfolding partsIn encoded
   parts-back =
+      let c = bytes 2 (s .count) in
+      let x = columnOf 2 (t .fields) in
+      let n = columnOf 8 (t .numbers) in
+      let v = columnOf 4 (map unsigned (t .levels)) in
+      let a = columnOf 2 (t .ancestors) in
+      let y = columnOf 2 w in
+      let lx : length x ≡ fieldCount * 2 = length-column 2 (t .fields) ∙ ap (λ (k : ℕ). k * 2) (f .fields) in
+      let ln : length n ≡ numberCount * 8 = length-column 8 (t .numbers) ∙ ap (λ (k : ℕ). k * 8) (f .numbers) in
+      let lv : length v ≡ treeRows * 4 = length-column 4 (map unsigned (t .levels)) ∙ ap (λ (k : ℕ). k * 4) (length-map (t .levels) unsigned ∙ f .levels) in
+      let e : x ++ (n ++ (v ++ (a ++ y))) ≡ (x ++ (n ++ v)) ++ (a ++ y) = simp append-assoc in
+      parts-eq t
+      (column-read c (n ++ (v ++ (a ++ y))) fieldsPlace fieldCount refl 2 (t .fields) (f .fields) (g .fields))
+      (column-read (c ++ x) (v ++ (a ++ y)) numbersPlace numberCount (omega arith) 8 (t .numbers) (f .numbers) (g .numbers))
+      (ap (λ (l : List ℕ). levelsAt treeRows (c ++ l) levelsPlace) (sym (append-assoc x n (v ++ (a ++ y))))
+      ∙ levels-read (c ++ (x ++ n)) (a ++ y) levelsPlace treeRows (simp length-append (omega arith)) (t .levels) (f .levels) (g .levels))
+      (ap (λ (l : List ℕ). numbersAt 2 entryCount (c ++ l) ancestorsPlace) e
+      ∙ column-read (c ++ (x ++ (n ++ v))) y ancestorsPlace entryCount (simp length-append (omega arith)) 2 (t .ancestors) (f .ancestors) (g .ancestors))
+
+  pub tally-back : tallyIn (encoded s t w) ≡ w
+  unfolding tallyIn encoded
+  tally-back =
       let c = bytes 2 (s .count) in
       let x = columnOf 2 (t .fields) in
       let n = columnOf 8 (t .numbers) in
@@ -133,14 +155,14 @@ module _ (s : State) (t : Parts) (f : Fits treeRows t) (g : InBytes s t) where
       let lx : length x ≡ fieldCount * 2 = length-column 2 (t .fields) ∙ ap (λ (k : ℕ). k * 2) (f .fields) in
       let ln : length n ≡ numberCount * 8 = length-column 8 (t .numbers) ∙ ap (λ (k : ℕ). k * 8) (f .numbers) in
       let lv : length v ≡ treeRows * 4 = length-column 4 (map unsigned (t .levels)) ∙ ap (λ (k : ℕ). k * 4) (length-map (t .levels) unsigned ∙ f .levels) in
-      let e : x ++ (n ++ (v ++ a)) ≡ (x ++ (n ++ v)) ++ (a ++ []) = simp (append-assoc, append-nil) in
-      parts-eq t
-      (column-read c (n ++ (v ++ a)) fieldsPlace fieldCount refl 2 (t .fields) (f .fields) (g .fields))
-      (column-read (c ++ x) (v ++ a) numbersPlace numberCount (omega arith) 8 (t .numbers) (f .numbers) (g .numbers))
-      (ap (λ (l : List ℕ). levelsAt treeRows (c ++ l) levelsPlace) (sym (append-assoc x n (v ++ a)))
-      ∙ levels-read (c ++ (x ++ n)) a levelsPlace treeRows (simp length-append (omega arith)) (t .levels) (f .levels) (g .levels))
-      (ap (λ (l : List ℕ). numbersAt 2 entryCount (c ++ l) ancestorsPlace) e
-      ∙ column-read (c ++ (x ++ (n ++ v))) [] ancestorsPlace entryCount (simp length-append (omega arith)) 2 (t .ancestors) (f .ancestors) (g .ancestors))
+      let la : length a ≡ entryCount * 2 = length-column 2 (t .ancestors) ∙ ap (λ (k : ℕ). k * 2) (f .ancestors) in
+      let e : x ++ (n ++ (v ++ (a ++ columnOf 2 w))) ≡ (x ++ (n ++ (v ++ a))) ++ (columnOf 2 w ++ []) = simp (append-assoc, append-nil) in
+      ap (λ (l : List ℕ). numbersAt 2 tallyLength (c ++ l) tallyPlace) e
+      ∙ column-read (c ++ (x ++ (n ++ (v ++ a)))) [] tallyPlace tallyLength (simp length-append (omega arith)) 2 w h (g .tally)
+
+-- what was written is held
+pub written-held : (b : List ℕ) (s : State) (t : Parts) (w : List ℕ) → Fits treeRows t → length w ≡ tallyLength → b ≡ encoded s t w → InBytes s t w → Held b s t w
+written-held b s t w f h e g = (ap stateIn e ∙ state-back s t w f h g, (ap partsIn e ∙ parts-back s t w f h g, ap tallyIn e ∙ tally-back s t w f h g))
 
 -- what stands at a place and what follows it
 follow : (b : List ℕ) (p n : ℕ) {a r : List ℕ} → a ≡ take n (drop p b) → r ≡ drop (p + n) b → a ++ r ≡ drop p b
@@ -148,14 +170,15 @@ follow b p n {a} {r} x y =
     ap (λ (l : List ℕ). l ++ r) x ∙ ap (λ (l : List ℕ). take n (drop p b) ++ l) (y ∙ sym (drop-drop n p b)) ∙ take-append-drop n (drop p b)
 
 -- every run of bytes of that length is the tree that it holds
-pub bytes-back : (b : List ℕ) → length b ≡ treeBytes → Under 256 b → encoded (stateIn b) (partsIn b) ≡ b
-unfolding encoded stateIn partsIn
+pub bytes-back : (b : List ℕ) → length b ≡ treeBytes → Under 256 b → encoded (stateIn b) (partsIn b) (tallyIn b) ≡ b
+unfolding encoded stateIn partsIn tallyIn
 bytes-back b e u =
-    let entries : columnOf 2 (numbersAt 2 entryCount b ancestorsPlace) ≡ drop ancestorsPlace b =
-    column-written b u 2 ancestorsPlace entryCount (omega arith) ∙ take-all (entryCount * 2) (drop ancestorsPlace b) (rw length-drop (omega arith)) in
+    let tally : columnOf 2 (numbersAt 2 tallyLength b tallyPlace) ≡ drop tallyPlace b =
+    column-written b u 2 tallyPlace tallyLength (omega arith) ∙ take-all (tallyLength * 2) (drop tallyPlace b) (rw length-drop (omega arith)) in
     let levels : columnOf 4 (map unsigned (levelsAt treeRows b levelsPlace)) ≡ take (treeRows * 4) (drop levelsPlace b) =
     ap (columnOf 4) (levels-written b u levelsPlace treeRows) ∙ column-written b u 4 levelsPlace treeRows (omega arith) in
     follow b 0 2 (bytes-at b u 2 0 (omega arith))
     (follow b fieldsPlace (fieldCount * 2) (column-written b u 2 fieldsPlace fieldCount (omega arith))
     (follow b numbersPlace (numberCount * 8) (column-written b u 8 numbersPlace numberCount (omega arith))
-    (follow b levelsPlace (treeRows * 4) levels entries)))
+    (follow b levelsPlace (treeRows * 4) levels
+    (follow b ancestorsPlace (entryCount * 2) (column-written b u 2 ancestorsPlace entryCount (omega arith)) tally))))

@@ -1,5 +1,5 @@
-// The table form for a C host, as include/vundreli.h declares it: the calls that change a table. The lent parts are handed over as they are, the count by
-// value. A slice is a pointer and a count.
+// The table form for a C host, as include/vundreli.h declares it: the calls that change a table. The lent parts and the tally are handed over as they are,
+// the count by value. A slice is a pointer and a count.
 use replies::reply_grown;
 use replies::reply_linked;
 use replies::reply_made;
@@ -26,14 +26,15 @@ pub extern "C" fn nca_table_set_up(
     numbers: &mut [u64],
     levels: &mut [i32],
     ancestors: &mut [u16],
+    tally: &mut [u16],
     out: &mut [u16],
 ) -> u16
-    ensures { λ r. ⌜ outcome (partsOf (now (fields .exit)) (now (numbers .exit)) (now (levels .exit)) (now (ancestors .exit))) (reply r (now (out .exit))) ≡ setUpCall (partsOf (now (fields .entry)) (now (numbers .entry)) (now (levels .entry)) (now (ancestors .entry))) (now (out .entry)) ⌝ }
+    ensures { λ r. ⌜ outcome (partsOf (now (fields .exit)) (now (numbers .exit)) (now (levels .exit)) (now (ancestors .exit))) (now (tally .exit)) (reply r (now (out .exit))) ≡ setUpCall (partsOf (now (fields .entry)) (now (numbers .entry)) (now (levels .entry)) (now (ancestors .entry))) (now (tally .entry)) (now (out .entry)) ⌝ }
 {
     if out.len() != MADE_OUT {
         return number_of(Refusal::Misfit);
     }
-    let made = set_up::set_up(fields, numbers, levels, ancestors);
+    let made = set_up::set_up(fields, numbers, levels, ancestors, tally);
     reply_made(made, out)
 }
 
@@ -44,17 +45,18 @@ pub extern "C" fn nca_table_add_first(
     numbers: &mut [u64],
     levels: &mut [i32],
     ancestors: &mut [u16],
+    tally: &mut [u16],
     scratch: &[u16],
     count: u16,
     out: &mut [u16],
 ) -> u16
-    ensures { λ r. ⌜ outcome (partsOf (now (fields .exit)) (now (numbers .exit)) (now (levels .exit)) (now (ancestors .exit))) (reply r (now (out .exit))) ≡ firstCall (partsOf (now (fields .entry)) (now (numbers .entry)) (now (levels .entry)) (now (ancestors .entry))) (now (out .entry)) (length (now (scratch .entry))) (stateOf count) ⌝ }
+    ensures { λ r. ⌜ outcome (partsOf (now (fields .exit)) (now (numbers .exit)) (now (levels .exit)) (now (ancestors .exit))) (now (tally .exit)) (reply r (now (out .exit))) ≡ firstCall (partsOf (now (fields .entry)) (now (numbers .entry)) (now (levels .entry)) (now (ancestors .entry))) (now (tally .entry)) (now (out .entry)) (length (now (scratch .entry))) (stateOf count) ⌝ }
 {
     if out.len() != GROWN_OUT {
         return number_of(Refusal::Misfit);
     }
     let state = State { count: count };
-    let grown = growth::add_first(fields, numbers, levels, ancestors, scratch, state);
+    let grown = growth::add_first(fields, numbers, levels, ancestors, tally, scratch, state);
     reply_grown(grown, out)
 }
 
@@ -65,13 +67,14 @@ pub extern "C" fn nca_table_add_leaf(
     numbers: &mut [u64],
     levels: &mut [i32],
     ancestors: &mut [u16],
+    tally: &mut [u16],
     scratch: &[u16],
     count: u16,
     parent: u16,
     label: u16,
     out: &mut [u16],
 ) -> u16
-    ensures { λ r. ⌜ outcome (partsOf (now (fields .exit)) (now (numbers .exit)) (now (levels .exit)) (now (ancestors .exit))) (reply r (now (out .exit))) ≡ leafCall (partsOf (now (fields .entry)) (now (numbers .entry)) (now (levels .entry)) (now (ancestors .entry))) (now (out .entry)) (length (now (scratch .entry))) (stateOf count) parent label ⌝ }
+    ensures { λ r. ⌜ outcome (partsOf (now (fields .exit)) (now (numbers .exit)) (now (levels .exit)) (now (ancestors .exit))) (now (tally .exit)) (reply r (now (out .exit))) ≡ leafCall (partsOf (now (fields .entry)) (now (numbers .entry)) (now (levels .entry)) (now (ancestors .entry))) (now (tally .entry)) (now (out .entry)) (length (now (scratch .entry))) (stateOf count) parent label ⌝ }
 {
     if out.len() != GROWN_OUT {
         return number_of(Refusal::Misfit);
@@ -82,6 +85,7 @@ pub extern "C" fn nca_table_add_leaf(
         numbers,
         levels,
         ancestors,
+        tally,
         scratch,
         state,
         parent,
@@ -97,18 +101,19 @@ pub extern "C" fn nca_table_add_root(
     numbers: &mut [u64],
     levels: &mut [i32],
     ancestors: &mut [u16],
+    tally: &mut [u16],
     scratch: &[u16],
     count: u16,
     x: u16,
     out: &mut [u16],
 ) -> u16
-    ensures { λ r. ⌜ outcome (partsOf (now (fields .exit)) (now (numbers .exit)) (now (levels .exit)) (now (ancestors .exit))) (reply r (now (out .exit))) ≡ rootCall (partsOf (now (fields .entry)) (now (numbers .entry)) (now (levels .entry)) (now (ancestors .entry))) (now (out .entry)) (length (now (scratch .entry))) (stateOf count) x ⌝ }
+    ensures { λ r. ⌜ outcome (partsOf (now (fields .exit)) (now (numbers .exit)) (now (levels .exit)) (now (ancestors .exit))) (now (tally .exit)) (reply r (now (out .exit))) ≡ rootCall (partsOf (now (fields .entry)) (now (numbers .entry)) (now (levels .entry)) (now (ancestors .entry))) (now (tally .entry)) (now (out .entry)) (length (now (scratch .entry))) (stateOf count) x ⌝ }
 {
     if out.len() != GROWN_OUT {
         return number_of(Refusal::Misfit);
     }
     let state = State { count: count };
-    let grown = growth::add_root_over(fields, numbers, levels, ancestors, scratch, state, x);
+    let grown = growth::add_root_over(fields, numbers, levels, ancestors, tally, scratch, state, x);
     reply_grown(grown, out)
 }
 
@@ -119,6 +124,7 @@ pub extern "C" fn nca_table_link(
     numbers: &mut [u64],
     levels: &mut [i32],
     ancestors: &mut [u16],
+    tally: &mut [u16],
     scratch: &mut [u16],
     count: u16,
     x: u16,
@@ -126,7 +132,7 @@ pub extern "C" fn nca_table_link(
     label: u16,
     out: &mut [u32],
 ) -> u16
-    ensures { λ r. ⌜ LinkCall (partsOf (now (fields .entry)) (now (numbers .entry)) (now (levels .entry)) (now (ancestors .entry))) (now (out .entry)) (now (scratch .entry)) (stateOf count) x v label (now (scratch .exit)) (outcome (partsOf (now (fields .exit)) (now (numbers .exit)) (now (levels .exit)) (now (ancestors .exit))) (reply r (now (out .exit)))) ⌝ }
+    ensures { λ r. ⌜ LinkCall (partsOf (now (fields .entry)) (now (numbers .entry)) (now (levels .entry)) (now (ancestors .entry))) (now (tally .entry)) (now (out .entry)) (now (scratch .entry)) (stateOf count) x v label (now (scratch .exit)) (outcome (partsOf (now (fields .exit)) (now (numbers .exit)) (now (levels .exit)) (now (ancestors .exit))) (now (tally .exit)) (reply r (now (out .exit)))) ⌝ }
 {
     if out.len() != LINKED_OUT {
         return number_of(Refusal::Misfit);
@@ -137,6 +143,7 @@ pub extern "C" fn nca_table_link(
         numbers,
         levels,
         ancestors,
+        tally,
         scratch,
         state,
         x,

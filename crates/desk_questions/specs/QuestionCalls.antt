@@ -19,10 +19,10 @@ unfoldable pub alikeCall : Parts → List ℕ → State → ℕ → ℕ → Repl
 alikeCall t out s x y = onLength 1 out (alikeReply out (alike t s x y)) (misfit out)
 
 -- of the scratch only its length counts
-unfoldable pub inspectionCall : Parts → List ℕ → ℕ → State → Reply ℕ
-inspectionCall t out scratch s = onLength 1 out (inspectionReply out (inspection t scratch s)) (misfit out)
+unfoldable pub inspectionCall : Parts → List ℕ → List ℕ → ℕ → State → Reply ℕ
+inspectionCall t w out scratch s = onLength 1 out (inspectionReply out (inspection t w scratch s)) (misfit out)
 
 -- the reply of an inspection; the scratch is unchanged on a refusal, and may hold anything of its length on success
-pub record InspectionCall (t : Parts) (out scratch : List ℕ) (s : State) (after : List ℕ) (r : Reply ℕ) : Type 0 where
-  pub replied : r ≡ inspectionCall t out (length scratch) s
+pub record InspectionCall (t : Parts) (w out scratch : List ℕ) (s : State) (after : List ℕ) (r : Reply ℕ) : Type 0 where
+  pub replied : r ≡ inspectionCall t w out (length scratch) s
   pub unchanged : 0 < r .number → after ≡ scratch

@@ -40,18 +40,18 @@ module _ (t : Parts) (s : State) {r : ℕ} where
     unfolding alikeCall
     alike-served after a e q h = rw (h, q) (on-length 1 out (alikeReply out (alike t s x y)) _ e)
 
-  module _ (out scratch : List ℕ) where
-    pub inspection-misfit : r ≡ 3 → length out ≢ 1 → InspectionCall t out scratch s scratch (reply r out)
+  module _ (w out scratch : List ℕ) where
+    pub inspection-misfit : r ≡ 3 → length out ≢ 1 → InspectionCall t w out scratch s scratch (reply r out)
     unfolding inspectionCall
     inspection-misfit h e = record { replied = rw h (off-length 1 out _ (misfit out) e); unchanged = λ _. refl }
 
-    pub inspection-served : (after left : List ℕ) (i : Inspected) → length out ≡ 1 → Inspection t scratch s left i → reply r after ≡ inspectionReply out (inspectionOf i) → InspectionCall t out scratch s left (reply r after)
+    pub inspection-served : (after left : List ℕ) (i : Inspected) → length out ≡ 1 → Inspection t w scratch s left i → reply r after ≡ inspectionReply out (inspectionOf i) → InspectionCall t w out scratch s left (reply r after)
     unfolding inspectionCall
     inspection-served after left i e q h = record {
-      replied = rw (h, q .outcome) (on-length 1 out (inspectionReply out (inspection t (length scratch) s)) _ e);
+      replied = rw (h, q .outcome) (on-length 1 out (inspectionReply out (inspection t w (length scratch) s)) _ e);
       unchanged = go i q h;
     }
       where
-        go : (i : Inspected) → Inspection t scratch s left i → reply r after ≡ inspectionReply out (inspectionOf i) → 0 < r → left ≡ scratch
+        go : (i : Inspected) → Inspection t w scratch s left i → reply r after ≡ inspectionReply out (inspectionOf i) → 0 < r → left ≡ scratch
         go (Passes b) q h l = let z : r ≡ 0 = ap (λ (p : Reply ℕ). p .number) h in absurd (omega arith)
         go (Refused n) q h l = q .unchanged (numberOf n) refl

@@ -62,23 +62,24 @@ pub extern "C" fn nca_table_alike(
     reply_compared(compared, out)
 }
 
-// Whether the table passes inspection. Out: 1 or 0.
+// Whether the table passes inspection, its tally too. Out: 1 or 0.
 #[no_mangle]
 pub extern "C" fn nca_table_inspect(
     fields: &[u16],
     numbers: &[u64],
     levels: &[i32],
     ancestors: &[u16],
+    tally: &[u16],
     scratch: &mut [u16],
     count: u16,
     out: &mut [u16],
 ) -> u16
-    ensures { λ r. ⌜ InspectionCall (partsOf (now (fields .entry)) (now (numbers .entry)) (now (levels .entry)) (now (ancestors .entry))) (now (out .entry)) (now (scratch .entry)) (stateOf count) (now (scratch .exit)) (reply r (now (out .exit))) ⌝ }
+    ensures { λ r. ⌜ InspectionCall (partsOf (now (fields .entry)) (now (numbers .entry)) (now (levels .entry)) (now (ancestors .entry))) (now (tally .entry)) (now (out .entry)) (now (scratch .entry)) (stateOf count) (now (scratch .exit)) (reply r (now (out .exit))) ⌝ }
 {
     if out.len() != INSPECTED_OUT {
         return number_of(Refusal::Misfit);
     }
     let state = State { count: count };
-    let inspected = inspect::inspect(fields, numbers, levels, ancestors, scratch, state);
+    let inspected = inspect::inspect(fields, numbers, levels, ancestors, tally, scratch, state);
     reply_inspected(inspected, out)
 }

@@ -1,15 +1,16 @@
-// Byte trees of capacity 128 for a C host, as include/vundreli.h declares them: the bytes are read into a table on the stack, and written back where a growth was served.
+// Byte trees of capacity 128 for a C host, as include/vundreli.h declares them: set-up and the question. The bytes are read into a table on the stack,
+// for set-up into a tally too, and written back where it was served.
 use byte_replies::reply_answered;
-use byte_replies::reply_grown;
 use bytes_tree::tree::BYTES;
 use bytes_tree::tree::ENTRY_COUNT;
 use bytes_tree::tree::FIELD_COUNT;
 use bytes_tree::tree::NUMBER_COUNT;
 use bytes_tree::tree::ROWS;
+use bytes_tree::tree::TALLY_COUNT;
 use bytes_tree::tree::read_parts;
 use bytes_tree::tree::read_state;
+use bytes_tree::tree::read_tally;
 use bytes_tree::tree::write_tree;
-use growth::Grown;
 use set_up::Made;
 use table::refusal::Refusal;
 use table::refusal::number_of;
@@ -17,17 +18,13 @@ ghost use mathlib.Core.Path.{_≡_};
 ghost use lib.ListN.{length};
 ghost use Rattle.table.specs.Parts.{partsOf};
 ghost use Rattle.table.specs.Capacity.{Fits};
-ghost use Rattle.bytes_tree.specs.Tree.{treeRows, treeBytes, stateIn, partsIn};
+ghost use Rattle.tally.specs.Layout.{tallyLength};
+ghost use Rattle.bytes_tree.specs.Tree.{treeRows, treeBytes, partsIn, tallyIn};
 ghost use Rattle.set_up.specs.Outcome.{outcomeOf as emptyOf};
-ghost use Rattle.set_up.specs.Blank.{setUp, partsAfter};
-ghost use Rattle.growth.specs.Outcome.{outcomeOf as growthOf};
-ghost use Rattle.growth.specs.Growth.{addLeaf, addRoot};
 ghost use Rattle.replies.specs.Reply.{reply};
-ghost use Rattle.desk_trees.specs.TreeCalls.{outcome, madeBytes, MadeHeld, setUpTree, treeAfter, GrownHeld, GrowthHeld, leafTree, rootTree, questionTree};
+ghost use Rattle.desk_trees.specs.TreeCalls.{madeBytes, MadeHeld, SetUpHeld, setUpTree, questionTree};
 
-// How many bytes each call has for its out slice.
-const GROWN_OUT: usize = 6;
-
+// How many bytes a question has for its out slice.
 const ANSWERED_OUT: usize = 16;
 
 // The tree that set-up made, or 01's refusal number.
@@ -37,42 +34,21 @@ fn keep_made(
     numbers: &[u64],
     levels: &[i32],
     ancestors: &[u16],
+    tally: &[u16],
     made: Made,
 ) -> u16
     requires { ⌜ length (now tree) ≡ treeBytes ⌝ }
     requires { ⌜ Fits treeRows (partsOf (now fields) (now numbers) (now levels) (now ancestors)) ⌝ }
-    ensures answer { λ r. ⌜ reply r (now (tree .exit)) ≡ madeBytes (now (tree .entry)) (emptyOf made) (partsOf (now (fields .entry)) (now (numbers .entry)) (now (levels .entry)) (now (ancestors .entry))) ⌝ }
-    ensures held { λ _. ⌜ MadeHeld (now (tree .exit)) (emptyOf made) (partsOf (now (fields .entry)) (now (numbers .entry)) (now (levels .entry)) (now (ancestors .entry))) ⌝ }
+    requires { ⌜ length (now tally) ≡ tallyLength ⌝ }
+    ensures answer { λ r. ⌜ reply r (now (tree .exit)) ≡ madeBytes (now (tree .entry)) (emptyOf made) (partsOf (now (fields .entry)) (now (numbers .entry)) (now (levels .entry)) (now (ancestors .entry))) (now (tally .entry)) ⌝ }
+    ensures held { λ _. ⌜ MadeHeld (now (tree .exit)) (emptyOf made) (partsOf (now (fields .entry)) (now (numbers .entry)) (now (levels .entry)) (now (ancestors .entry))) (now (tally .entry)) ⌝ }
 {
     match made {
         Made::Empty(empty) => {
-            write_tree(tree, empty, fields, numbers, levels, ancestors);
+            write_tree(tree, empty, fields, numbers, levels, ancestors, tally);
             0
         }
         Made::Refused(r) => number_of(r),
-    }
-}
-
-// The grown tree, where the growth was served.
-fn keep_grown(
-    tree: &mut [u8],
-    fields: &[u16],
-    numbers: &[u64],
-    levels: &[i32],
-    ancestors: &[u16],
-    grown: Grown,
-)
-    requires { ⌜ length (now tree) ≡ treeBytes ⌝ }
-    requires { ⌜ Fits treeRows (partsOf (now fields) (now numbers) (now levels) (now ancestors)) ⌝ }
-    ensures tree { λ _. ⌜ now (tree .exit) ≡ treeAfter (now (tree .entry)) (partsOf (now (fields .entry)) (now (numbers .entry)) (now (levels .entry)) (now (ancestors .entry))) (growthOf grown) ⌝ }
-    ensures held { λ _. ⌜ GrownHeld (now (tree .exit)) (partsOf (now (fields .entry)) (now (numbers .entry)) (now (levels .entry)) (now (ancestors .entry))) (growthOf grown) ⌝ }
-{
-    match grown {
-        Grown::Node(g) => {
-            let s = g.state;
-            write_tree(tree, s, fields, numbers, levels, ancestors);
-        }
-        Grown::Refused(_) => {}
     }
 }
 
@@ -80,7 +56,7 @@ fn keep_grown(
 #[no_mangle]
 pub extern "C" fn nca_set_up(tree: &mut [u8]) -> u16
     ensures answer { λ r. ⌜ reply r (now (tree .exit)) ≡ setUpTree (now (tree .entry)) ⌝ }
-    ensures held { λ r. ⌜ (r ≡ 0 → MadeHeld (now (tree .exit)) (setUp (partsIn (now (tree .entry)))) (partsAfter (partsIn (now (tree .entry))))) ⌝ }
+    ensures held { λ r. ⌜ (r ≡ 0 → SetUpHeld (now (tree .exit)) (partsIn (now (tree .entry))) (tallyIn (now (tree .entry)))) ⌝ }
 {
     if tree.len() != BYTES {
         return number_of(Refusal::Misfit);
@@ -90,72 +66,16 @@ pub extern "C" fn nca_set_up(tree: &mut [u8]) -> u16
     let mut levels = [0i32; ROWS];
     let mut ancestors = [0u16; ENTRY_COUNT];
     read_parts(tree, &mut fields, &mut numbers, &mut levels, &mut ancestors);
-    let made = set_up::set_up(&mut fields, &mut numbers, &mut levels, &mut ancestors);
-    keep_made(tree, &fields, &numbers, &levels, &ancestors, made)
-}
-
-// A new leaf. Out: node, rows renumbered, head.
-#[no_mangle]
-pub extern "C" fn nca_add_leaf(tree: &mut [u8], parent: u16, label: u16, out: &mut [u8]) -> u16
-    ensures answer { λ r. ⌜ outcome (now (tree .exit)) (reply r (now (out .exit))) ≡ leafTree (now (tree .entry)) (now (out .entry)) parent label ⌝ }
-    ensures held { λ r. ⌜ (r ≡ 0 → GrowthHeld (now (tree .exit)) (addLeaf (partsIn (now (tree .entry))) treeRows (stateIn (now (tree .entry))) parent label)) ⌝ }
-{
-    if tree.len() != BYTES {
-        return number_of(Refusal::Misfit);
-    }
-    if out.len() != GROWN_OUT {
-        return number_of(Refusal::Misfit);
-    }
-    let mut fields = [0u16; FIELD_COUNT];
-    let mut numbers = [0u64; NUMBER_COUNT];
-    let mut levels = [0i32; ROWS];
-    let mut ancestors = [0u16; ENTRY_COUNT];
-    read_parts(tree, &mut fields, &mut numbers, &mut levels, &mut ancestors);
-    let scratch = [0u16; ROWS];
-    let state = read_state(tree);
-    let grown = growth::add_leaf(
+    let mut tally = [0u16; TALLY_COUNT];
+    read_tally(tree, &mut tally);
+    let made = set_up::set_up(
         &mut fields,
         &mut numbers,
         &mut levels,
         &mut ancestors,
-        &scratch,
-        state,
-        parent,
-        label,
+        &mut tally,
     );
-    keep_grown(tree, &fields, &numbers, &levels, &ancestors, grown);
-    reply_grown(grown, out)
-}
-
-// A first node in an empty tree, else a new root over the first tree's, as a byte tree keeps to it. Out: node, rows renumbered, head.
-#[no_mangle]
-pub extern "C" fn nca_add_root(tree: &mut [u8], out: &mut [u8]) -> u16
-    ensures answer { λ r. ⌜ outcome (now (tree .exit)) (reply r (now (out .exit))) ≡ rootTree (now (tree .entry)) (now (out .entry)) ⌝ }
-    ensures held { λ r. ⌜ (r ≡ 0 → GrowthHeld (now (tree .exit)) (addRoot (partsIn (now (tree .entry))) treeRows (stateIn (now (tree .entry))))) ⌝ }
-{
-    if tree.len() != BYTES {
-        return number_of(Refusal::Misfit);
-    }
-    if out.len() != GROWN_OUT {
-        return number_of(Refusal::Misfit);
-    }
-    let mut fields = [0u16; FIELD_COUNT];
-    let mut numbers = [0u64; NUMBER_COUNT];
-    let mut levels = [0i32; ROWS];
-    let mut ancestors = [0u16; ENTRY_COUNT];
-    read_parts(tree, &mut fields, &mut numbers, &mut levels, &mut ancestors);
-    let scratch = [0u16; ROWS];
-    let state = read_state(tree);
-    let grown = growth::add_root(
-        &mut fields,
-        &mut numbers,
-        &mut levels,
-        &mut ancestors,
-        &scratch,
-        state,
-    );
-    keep_grown(tree, &fields, &numbers, &levels, &ancestors, grown);
-    reply_grown(grown, out)
+    keep_made(tree, &fields, &numbers, &levels, &ancestors, &tally, made)
 }
 
 // The characteristic ancestors of x and y. Out: nearest common ancestor, branches towards x and y, distances of x and y, label.

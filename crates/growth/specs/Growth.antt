@@ -1,9 +1,14 @@
--- Growth: the outcome and all parts afterwards, of a first node, a new leaf and a new root, on every table.
+-- Growth: the outcome, all parts and the tally afterwards, of a first node, a new leaf and a new root, on every table and every tally.
+use mathlib.Core.List.{List}
 use Prim.Native.Nat.{ℕ}
 use lib.IntN.{pos}
+use Rattle.laws.specs.Test.{pick}
+use Rattle.table.specs.declared.refusal.Refusal.the-variants.{Misfit, Corrupt}
 use Rattle.table.specs.declared.state.State.{State}
-use Rattle.table.specs.Parts.{Parts, partsOf}
-use Rattle.table.specs.Parts.{withLevel}
+use Rattle.table.specs.Parts.{Parts, partsOf, withLevel}
+use Rattle.table.specs.Capacity.{onFit}
+use Rattle.tally.specs.Fit.{capacityWith}
+use Rattle.tally.specs.Count.{hasRoom, counted}
 use Rattle.growth_plan.specs.declared.row.Plan.{Plan}
 use Rattle.growth_plan.specs.declared.row.Planned.{Planned}
 use Rattle.growth_plan.specs.declared.row.Planned.the-variants.{Grow, Start, Refuse}
@@ -14,46 +19,55 @@ use Rattle.growth_store.specs.Start.{startedFields}
 use Rattle.growth_plan.specs.Plan.{firstPlan, leafPlan, overPlan, rootPlan}
 use Rattle.growth.specs.Outcome.{Outcome, refused, node}
 
--- the outcome, and the parts afterwards
+-- the outcome, and the parts and the tally afterwards
 pub record Result : Type 0 where
   pub outcome : Outcome
   pub parts : Parts
+  pub tally : List ℕ
 
-abbrev pub result : Parts → Outcome → Result
-result t o = record { outcome = o; parts = t }
+abbrev pub result : Parts → List ℕ → Outcome → Result
+result t w o = record { outcome = o; parts = t; tally = w }
 
 -- the outcome of a growth that was served: its row is the old count
 abbrev pub nodeAt : ℕ → ℕ → ℕ → Outcome
 nodeAt row rows head = node (oneMore row) row rows head
 
--- a growth that was served: the head is the one of its seat
-unfoldable pub served : Plan → Stored → Result
-served g s = result (s .parts) (nodeAt (g .seat .leaf .row) (s .given) (g .seat .head .row))
+-- a growth that was served: the head is the one of its seat, and there is a node more of its label
+unfoldable pub served : List ℕ → Plan → Stored → Result
+served w g s = result (s .parts) (counted w (g .label)) (nodeAt (g .seat .leaf .row) (s .given) (g .seat .head .row))
 
--- a first node that was served: one row is numbered, and it heads itself
-unfoldable pub started : Parts → ℕ → Result
-started t n =
+-- a first node that was served: one row is numbered, and it heads itself; its label is 0
+unfoldable pub started : Parts → List ℕ → ℕ → Result
+started t w n =
     result (partsOf (startedFields (t .fields) n) (loneNumbers (t .numbers) n) (withLevel (t .levels) n (pos 0)) (loneEntries (t .ancestors) n))
-    (nodeAt n 1 n)
+    (counted w 0) (nodeAt n 1 n)
 
--- by its plan: a refusal changes nothing
-unfoldable pub grownBy : Parts → Planned → Result
-grownBy t (Grow g) = served g (planStored t (g .seat .leaf .row) g)
-grownBy t (Start n) = started t n
-grownBy t (Refuse r) = result t (refused r)
+-- refused where the entry of the label would pass the capacity c
+abbrev pub withRoom : Parts → List ℕ → ℕ → ℕ → Result → Result
+withRoom t w c label r = pick (hasRoom w c label) r (result t w (refused Corrupt))
+
+-- by its plan, at capacity c: a refusal changes nothing
+unfoldable pub grownAt : Parts → List ℕ → ℕ → Planned → Result
+grownAt t w c (Grow g) = withRoom t w c (g .label) (served w g (planStored t (g .seat .leaf .row) g))
+grownAt t w c (Start n) = withRoom t w c 0 (started t w n)
+grownAt t w c (Refuse r) = result t w (refused r)
+
+-- in parts and a tally that fit
+unfoldable pub grownBy : Parts → List ℕ → Planned → Result
+grownBy t w p = onFit (capacityWith t w) (λ c. grownAt t w c p) (result t w (refused Misfit))
 
 -- a first node; of the scratch only its length counts
-unfoldable pub addFirst : Parts → ℕ → State → Result
-addFirst t scratch s = grownBy t (firstPlan t scratch s)
+unfoldable pub addFirst : Parts → List ℕ → ℕ → State → Result
+addFirst t w scratch s = grownBy t w (firstPlan t scratch s)
 
 -- a new leaf of this label under this parent
-unfoldable pub addLeaf : Parts → ℕ → State → ℕ → ℕ → Result
-addLeaf t scratch s parent label = grownBy t (leafPlan t scratch s parent label)
+unfoldable pub addLeaf : Parts → List ℕ → ℕ → State → ℕ → ℕ → Result
+addLeaf t w scratch s parent label = grownBy t w (leafPlan t scratch s parent label)
 
 -- a new root over x
-unfoldable pub addOver : Parts → ℕ → State → ℕ → Result
-addOver t scratch s x = grownBy t (overPlan t scratch s x)
+unfoldable pub addOver : Parts → List ℕ → ℕ → State → ℕ → Result
+addOver t w scratch s x = grownBy t w (overPlan t scratch s x)
 
 -- a new root over that of the first tree; the first node where there is none
-unfoldable pub addRoot : Parts → ℕ → State → Result
-addRoot t scratch s = grownBy t (rootPlan t scratch s)
+unfoldable pub addRoot : Parts → List ℕ → ℕ → State → Result
+addRoot t w scratch s = grownBy t w (rootPlan t scratch s)

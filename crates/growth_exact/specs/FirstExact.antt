@@ -1,6 +1,7 @@
 -- A first node on a table that passes inspection: served, and what it answers and leaves is a row more that stands alone (02, "each begun by a call
 -- for its first node"). 01's new root of an empty table is one.
 use mathlib.Core.Path.{_≡_, refl, ap, _∙_}
+use mathlib.Core.List.{List}
 use Prim.Native.Nat.{ℕ, suc, _+_, _*_, _≤_, _<_}
 use native.Mathlib.Omega.{arith}
 use lib.IntN.{pos}
@@ -9,11 +10,15 @@ use lib.Seq.{getD-set-same, getD-set-other}
 use Rattle.table.specs.declared.state.State.{State}
 use Rattle.layer.specs.Layout.{fieldStride, depthPlace}
 use Rattle.table.specs.Layout.{labelPlace, rootPlace}
-use Rattle.table.specs.Parts.{Parts, partsOf}
-use Rattle.table.specs.Parts.{withLevel}
+use Rattle.table.specs.Parts.{Parts, partsOf, withLevel}
 use Rattle.table.specs.Capacity.{Fits}
 use Rattle.table.specs.Table.{Table, tableOf}
 use Rattle.table.specs.Rules.{Rules, numbered}
+use Rattle.tally.specs.Tally.{TallyOf}
+use Rattle.tally.specs.FitLaws.{with-told}
+use Rattle.tally.specs.Count.{counted}
+use Rattle.tally_exact.specs.CountExact.{counted-tallied}
+use Rattle.tally_exact.specs.RoomExact.{tallied-room}
 use Rattle.join_laws.specs.Extend.{extended-by}
 use Rattle.growth_laws.specs.Grown.{Started}
 use Rattle.growth_laws.specs.GrowthFrame.{StartFrame}
@@ -26,7 +31,7 @@ use Rattle.join.specs.Lone.{loneNumbers, loneEntries}
 use Rattle.growth_plan.specs.Plan.{rootPlan}
 use Rattle.growth_plan.specs.PlanLaws.{first-row, root-first}
 use Rattle.growth.specs.Outcome.{node}
-use Rattle.growth.specs.Growth.{Result, started, grownBy, addFirst, addRoot}
+use Rattle.growth.specs.Growth.{Result, result, nodeAt, started, grownAt, grownBy, addFirst, addRoot}
 use Rattle.growth_store.specs.Start.{startedFields}
 use Rattle.renumber_laws.specs.Column.{put, put-other}
 use Rattle.renumber_exact.specs.Columns.{RowView, row-set}
@@ -44,6 +49,8 @@ pub record StartedExactly (c : ℕ) (p : Parts) (s : State) (o : Result) : Type 
   pub started : Started (tableOf p (s .count)) (tableGrown s o)
   -- the table passes inspection again
   pub rules : Rules c (tableGrown s o)
+  -- and so does the tally
+  pub tally : TallyOf (tableGrown s o) (o .tally)
   -- the plain trees are one step of the plain list on
   pub plain : PlainStart (tableOf p (s .count)) (tableGrown s o)
   -- what did not change: every other row
@@ -96,36 +103,42 @@ module _ {c : ℕ} (p : Parts) (s : State) (fit : Fits c p) (r : Rules c (tableO
         roots = λ x l. start-frame x (omega arith) (λ e. omega arith) .sameRoot;
       }
 
-  start-exactly : StartedExactly c p s (grownBy p (Start n))
-  unfolding grownBy started
-  start-exactly =
-      let f = lone-long (layerParts p) (long-parts fit) n room in
-      record {
-        answered = count-more n p fit room 1 n;
-        fits = record {
-          least = fit .least;
-          most = fit .most;
-          levels = length-set (p .levels) n (pos 0) ∙ fit .levels;
-          fields = view .holds .long;
-          numbers = f .numbers;
-          ancestors = f .ancestors;
-        };
-        started = started-is;
-        rules = start-keeps-rules r (fit .most) room started-is;
-        plain = start-plain r (fit .most) room started-is;
-        frame = start-frame;
-        pays = omega (arith, parted-lag (numbered r (fit .most)) (started-is .extended .parted));
-      }
+  module _ (w : List ℕ) (k : TallyOf t w) where
+    start-is : grownBy p w (Start n) ≡ result left (counted w 0) (nodeAt n 1 n)
+    unfolding grownBy grownAt started
+    start-is = rw (with-told p w fit (k .long), tallied-room k {k = 0} room (omega arith))
 
-  -- the calls
-  module _ (scratch : ℕ) (long : scratch ≡ c) where
-    pub first-exact : StartedExactly c p s (addFirst p scratch s)
-    unfolding addFirst
-    first-exact = rw (← first-row p scratch s c (capacity-is p fit) long (λ e. omega arith) (standing-is p s r)) start-exactly
+    start-exactly : StartedExactly c p s (grownBy p w (Start n))
+    start-exactly =
+        let f = lone-long (layerParts p) (long-parts fit) n room in
+        let plainly = start-plain r (fit .most) room started-is in
+        rw start-is record {
+          answered = count-more n p fit room 1 n;
+          fits = record {
+            least = fit .least;
+            most = fit .most;
+            levels = length-set (p .levels) n (pos 0) ∙ fit .levels;
+            fields = view .holds .long;
+            numbers = f .numbers;
+            ancestors = f .ancestors;
+          };
+          started = started-is;
+          rules = start-keeps-rules r (fit .most) room started-is;
+          tally = counted-tallied k (plainly .labelOld) (plainly .labelNew);
+          plain = plainly;
+          frame = start-frame;
+          pays = omega (arith, parted-lag (numbered r (fit .most)) (started-is .extended .parted));
+        }
 
-    -- 01's new root where there is no node yet
-    pub root-first-exact : s .count ≡ 0 → StartedExactly c p s (addRoot p scratch s)
-    unfolding addRoot
-    root-first-exact z =
-        let e : Start n ≡ rootPlan p scratch s = ap Start z ∙ root-first p scratch s c (capacity-is p fit) long (λ e. omega arith) (standing-is p s r) z in
-        rw (← e) start-exactly
+    -- the calls
+    module _ (scratch : ℕ) (long : scratch ≡ c) where
+      pub first-exact : StartedExactly c p s (addFirst p w scratch s)
+      unfolding addFirst
+      first-exact = rw (← first-row p scratch s c (capacity-is p fit) long (λ e. omega arith) (standing-is p s r)) start-exactly
+
+      -- 01's new root where there is no node yet
+      pub root-first-exact : s .count ≡ 0 → StartedExactly c p s (addRoot p w scratch s)
+      unfolding addRoot
+      root-first-exact z =
+          let e : Start n ≡ rootPlan p scratch s = ap Start z ∙ root-first p scratch s c (capacity-is p fit) long (λ e. omega arith) (standing-is p s r) z in
+          rw (← e) start-exactly

@@ -3,6 +3,7 @@
 use mathlib.Core.Path.{_≡_, refl, ap, sym, _∙_}
 use mathlib.Core.Bool.{true}
 use mathlib.Core.Logic.{_≢_}
+use mathlib.Core.List.{List}
 use Prim.Native.Nat.{ℕ, suc, _+_, _*_, _≤_, _<_}
 use native.Mathlib.Omega.{arith}
 use borrow.Author.Tests.{le-leb}
@@ -21,6 +22,11 @@ use Rattle.table.specs.Rules.{labelLimit}
 use Rattle.layer.specs.StoredTree.{first}
 use Rattle.table.specs.PlainTree.{root as rootIn}
 use Rattle.table.specs.Rules.{Rules, numbered}
+use Rattle.tally.specs.Tally.{TallyOf}
+use Rattle.tally.specs.FitLaws.{with-told}
+use Rattle.tally.specs.Count.{hasRoom, counted}
+use Rattle.tally_exact.specs.CountExact.{counted-tallied}
+use Rattle.tally_exact.specs.RoomExact.{tallied-room}
 use Rattle.layer_laws.specs.Numbered.{InTree, in-tree, first-is}
 use Rattle.table_laws.specs.LevelBounds.{level-small}
 use Rattle.table_laws.specs.Lines.{root-in}
@@ -44,7 +50,7 @@ use Rattle.growth_store.specs.Store.{Stored}
 use Rattle.growth_plan.specs.Plan.{leafPlan, overPlan, rootPlan, rootOver}
 use Rattle.growth_plan.specs.PlanLaws.{leaf-row, above-row, over-row, root-row}
 use Rattle.growth.specs.Outcome.{node}
-use Rattle.growth.specs.Growth.{Result, result, nodeAt, served, grownBy, addLeaf, addOver, addRoot}
+use Rattle.growth.specs.Growth.{Result, result, nodeAt, served, grownAt, grownBy, addLeaf, addOver, addRoot}
 use Rattle.renumber_exact.specs.SizeWalkExact.{more-one}
 use Rattle.growth_exact.specs.PlanExact.{plan, joinedParts, plan-stored, plan-fits, plan-step}
 use Rattle.growth_exact.specs.GrowthSite.{site, level-planned, grows, headRow, tableGrown as tableJoined, grown, grown-rules, site-frame}
@@ -53,7 +59,7 @@ use Rattle.growth_exact.specs.GrowthSite.{site, level-planned, grows, he
 abbrev pub tableGrown : State → Result → Table
 tableGrown s o = tableOf (o .parts) (suc (s .count))
 
--- growth g of the parts p, of capacity c, came out as o: served, and as 01 has it
+-- growth g of the parts p, of capacity c, came out as o: served, and as 01 has it; its tally is true again
 pub record GrownExactly (c : ℕ) (p : Parts) (s : State) (g : Growth) (o : Result) : Type 0 where
   -- the head that was renumbered
   pub head : ℕ
@@ -67,6 +73,8 @@ pub record GrownExactly (c : ℕ) (p : Parts) (s : State) (g : Growth) (o : Resu
   pub order : StartOrder (tableGrown s o .layer) (tableGrown s o .layer) head
   -- the table passes inspection again
   pub rules : Rules c (tableGrown s o)
+  -- and so does the tally
+  pub tally : TallyOf (tableGrown s o) (o .tally)
   -- the plain trees are one step of the plain list on
   pub plain : PlainStep (tableOf p (s .count)) (tableGrown s o) g
   -- what did not change
@@ -97,8 +105,12 @@ rooted p s fit r x l e =
 
 -- From the plan to the outcome
 
-module _ {c : ℕ} (p : Parts) (s : State) (fit : Fits c p) (r : Rules c (tableOf p (s .count))) (room : s .count < c) (g : Growth)
-    (named : Named (tableOf p (s .count)) g) where
+label-most : {t : Table} {g : Growth} → Named t g → labelOf g ≤ labelLimit
+label-most (named-leaf l i j) = j
+label-most (named-root l e) = omega arith
+
+module _ {c : ℕ} (p : Parts) (w : List ℕ) (s : State) (fit : Fits c p) (r : Rules c (tableOf p (s .count))) (k : TallyOf (tableOf p (s .count)) w)
+    (room : s .count < c) (g : Growth) (named : Named (tableOf p (s .count)) g) where
   abbrev t : Table
   t = tableOf p (s .count)
 
@@ -109,43 +121,49 @@ module _ {c : ℕ} (p : Parts) (s : State) (fit : Fits c p) (r : Rules c (tableO
   h = headRow p (s .count) fit r room g named
 
   abbrev left : Result
-  left = result (joinedParts fit (site p (s .count) fit r room g named) (levelOf t g) (labelOf g) (treeOf t g)) (nodeAt (s .count) (rows (d .layer) h) h)
+  left = result (joinedParts fit (site p (s .count) fit r room g named) (levelOf t g) (labelOf g) (treeOf t g)) (counted w (labelOf g))
+      (nodeAt (s .count) (rows (d .layer) h) h)
 
-  outcome-is : grownBy p (Grow (plan fit (site p (s .count) fit r room g named) (levelOf t g) (labelOf g) (treeOf t g))) ≡ left
-  unfolding grownBy served
-  outcome-is = ap (λ (x : Stored). result (x .parts) (nodeAt (s .count) (x .given) h)) (plan-stored fit (site p (s .count) fit r room g named) (levelOf t g) (labelOf g) (treeOf t g))
+  free : hasRoom w c (labelOf g) ≡ true
+  free = tallied-room k room (label-most named)
+
+  outcome-is : grownBy p w (Grow (plan fit (site p (s .count) fit r room g named) (levelOf t g) (labelOf g) (treeOf t g))) ≡ left
+  unfolding grownBy grownAt served
+  outcome-is = rw (with-told p w fit (k .long), free) (ap (λ (x : Stored). result (x .parts) (counted w (labelOf g)) (nodeAt (s .count) (x .given) h)) (plan-stored fit (site p (s .count) fit r room g named) (levelOf t g) (labelOf g) (treeOf t g)))
 
   left-exactly : GrownExactly c p s g left
   left-exactly =
-      let k = grown p (s .count) fit r room g named in
+      let b = grown p (s .count) fit r room g named in
+      let plainly = growth-plain r (fit .most) room b in
       let i = site p (s .count) fit r room g named in
       let after = grown-rules p (s .count) fit r room g named in
       record {
         head = h;
         answered = count-more (s .count) p fit room (rows (d .layer) h) h;
         fits = plan-fits fit i (levelOf t g) (labelOf g) (treeOf t g);
-        grown = k;
-        order = order-after (numbered after (fit .most)) (k .step .renumbered);
+        grown = b;
+        order = order-after (numbered after (fit .most)) (b .step .renumbered);
         rules = after;
-        plain = growth-plain r (fit .most) room k;
+        tally = counted-tallied k (plainly .labelOld) (plainly .labelNew);
+        plain = plainly;
         frame = site-frame p (s .count) fit r room g named;
         headRows = join-head (i .was) (plan-step fit i (levelOf t g) (labelOf g) (treeOf t g));
-        pays = growth-pays (numbered r (fit .most)) k;
+        pays = growth-pays (numbered r (fit .most)) b;
       }
 
-  row-exactly : (q : Planned) → q ≡ Grow (plan fit (site p (s .count) fit r room g named) (levelOf t g) (labelOf g) (treeOf t g)) → GrownExactly c p s g (grownBy p q)
+  row-exactly : (q : Planned) → q ≡ Grow (plan fit (site p (s .count) fit r room g named) (levelOf t g) (labelOf g) (treeOf t g)) → GrownExactly c p s g (grownBy p w q)
   row-exactly q e = rw (e, outcome-is) left-exactly
 
 -- The three calls
 
-module _ {c : ℕ} (p : Parts) (s : State) (fit : Fits c p) (r : Rules c (tableOf p (s .count))) (scratch : ℕ) (same : scratch ≡ c)
-    (room : s .count < c) where
+module _ {c : ℕ} (p : Parts) (w : List ℕ) (s : State) (fit : Fits c p) (r : Rules c (tableOf p (s .count))) (k : TallyOf (tableOf p (s .count)) w)
+    (scratch : ℕ) (same : scratch ≡ c) (room : s .count < c) where
   -- a leaf
-  pub leaf-exact : (v label : ℕ) → v < s .count → 1 ≤ label → label ≤ labelLimit → GrownExactly c p s (leaf v label) (addLeaf p scratch s v label)
+  pub leaf-exact : (v label : ℕ) → v < s .count → 1 ≤ label → label ≤ labelLimit → GrownExactly c p s (leaf v label) (addLeaf p w scratch s v label)
   unfolding addLeaf
   leaf-exact v label l i j =
       let g : Named (tableOf p (s .count)) (leaf v label) = named-leaf l i j in
-      row-exactly p s fit r room (leaf v label) g (leafPlan p scratch s v label)
+      row-exactly p w s fit r k room (leaf v label) g (leafPlan p scratch s v label)
       (sym (leaf-row p scratch s v label c (capacity-is p fit) same l (rw (le-leb 1 label i, le-leb label labelLimit j) refl) (λ e. omega arith)
       (standing-is p s r) (rooted p s fit r v l) _ (sym (level-planned p (s .count) fit r room (leaf v label) g _ (level-small r (fit .most) v l))))
       ∙ grows p (s .count) fit r room (leaf v label) g)
@@ -159,23 +177,23 @@ module _ {c : ℕ} (p : Parts) (s : State) (fit : Fits c p) (r : Rules c (tableO
         let f : ℕ = treeOf (tableOf p (s .count)) (root x) in
         sym (above-row p s f x _ (sym (level-planned p (s .count) fit r room (root x) g _ (level-small r (fit .most) x l)))) ∙ grows p (s .count) fit r room (root x) g
 
-    pub over-exact : GrownExactly c p s (root x) (addOver p scratch s x)
+    pub over-exact : GrownExactly c p s (root x) (addOver p w scratch s x)
     unfolding addOver
     over-exact =
         let e : rootAt (p .fields) (p .ancestors) (s .count) x ≡ x = root-is p (s .count) r (fit .most) x l ∙ own in
-        row-exactly p s fit r room (root x) (named-root l own) (overPlan p scratch s x)
+        row-exactly p w s fit r k room (root x) (named-root l own) (overPlan p scratch s x)
         (sym (over-row p scratch s x c (capacity-is p fit) same l (standing-is p s r) (rooted p s fit r x l) e (λ e. omega arith))
         ∙ ap (λ (f : ℕ). rootOver p s f x) (tree-is p (s .count) r (fit .most) (in-tree (numbered r (fit .most)) x l)) ∙ above)
 
   -- a new root over that of the first tree, where there is one
-  pub root-exact : 0 < s .count → GrownExactly c p s (root (rootIn (tableOf p (s .count)) 0)) (addRoot p scratch s)
+  pub root-exact : 0 < s .count → GrownExactly c p s (root (rootIn (tableOf p (s .count)) 0)) (addRoot p w scratch s)
   unfolding addRoot
   root-exact z =
       let t : Table = tableOf p (s .count) in
       let i : InTree (t .layer) (first (t .layer) 0) 0 = in-tree (numbered r (fit .most)) 0 z in
       let j : InTree (t .layer) (first (t .layer) 0) (rootIn t 0) = root-in r (fit .most) i in
       let e : first (t .layer) (rootIn t 0) ≡ first (t .layer) 0 = first-is (numbered r (fit .most)) j in
-      row-exactly p s fit r room (root (rootIn t 0)) (named-root (j .inUse) (ap (t .root) e)) (rootPlan p scratch s)
+      row-exactly p w s fit r k room (root (rootIn t 0)) (named-root (j .inUse) (ap (t .root) e)) (rootPlan p scratch s)
       (sym (root-row p scratch s c (capacity-is p fit) same (λ e. omega arith) (standing-is p s r) (λ e. omega arith) (rooted p s fit r 0 z))
       ∙ ap (λ (f : ℕ). rootOver p s f (rootAt (p .fields) (p .ancestors) (s .count) 0)) (tree-is p (s .count) r (fit .most) i ∙ sym e)
       ∙ ap (λ (x : ℕ). rootOver p s (first (t .layer) (rootIn t 0)) x) (root-is p (s .count) r (fit .most) 0 z)

@@ -11,12 +11,14 @@ use Rattle.table.specs.Parts.{Parts}
 use Rattle.table.specs.State.{isStanding}
 use Rattle.table.specs.StateLaws.{says-standing}
 use Rattle.table.specs.Table.{tableOf}
+use Rattle.tally.specs.Test.{isTallied}
 use Rattle.inspect_laws.specs.Trees.{areTrees}
 use Rattle.inspect_laws.specs.Numbered.{isNumbered}
 use Rattle.inspect_tree.specs.Stored.{Stored}
 use Rattle.inspect_lines_laws.specs.Lines.{areLines}
 use Rattle.inspect_lines_laws.specs.Labels.{areLabels}
 use Rattle.inspect_lines.specs.Columns.{fieldTable, levelTable}
+use Rattle.inspect_tally.specs.Counts.{labels}
 use Rattle.inspect.specs.Inspects.{inspects}
 
 -- the trees of a layer that passes are right
@@ -29,8 +31,8 @@ numbered-stored f m a n few e = record { small = few; trees = left _ _ e }
     left false y h = h
 
 -- the answer of the first pass that fails, or of the last
-module _ (p : Parts) (s : State) (capacity : ℕ) where
-  pub stop-count : isStanding capacity s ≡ false → false ≡ inspects capacity (tableOf p (s .count))
+module _ (p : Parts) (w : List ℕ) (s : State) (capacity : ℕ) where
+  pub stop-count : isStanding capacity s ≡ false → false ≡ inspects capacity (tableOf p (s .count)) w
   unfolding inspects isStanding
   stop-count e = rw e
 
@@ -38,15 +40,20 @@ module _ (p : Parts) (s : State) (capacity : ℕ) where
     pub count-most : s .count ≤ capacity
     count-most = says-get (says-standing capacity s) a
 
-    pub stop-layer : isNumbered (layerOf (p .fields) (p .numbers) (p .ancestors) (s .count)) ≡ false → false ≡ inspects capacity (tableOf p (s .count))
+    pub stop-layer : isNumbered (layerOf (p .fields) (p .numbers) (p .ancestors) (s .count)) ≡ false → false ≡ inspects capacity (tableOf p (s .count)) w
     unfolding inspects isStanding
     stop-layer e = rw (a, e)
 
     module _ (b : isNumbered (layerOf (p .fields) (p .numbers) (p .ancestors) (s .count)) ≡ true) where
-      pub stop-lines : areLines (levelTable (p .fields) (p .levels) (s .count)) ≡ false → false ≡ inspects capacity (tableOf p (s .count))
+      pub stop-lines : areLines (levelTable (p .fields) (p .levels) (s .count)) ≡ false → false ≡ inspects capacity (tableOf p (s .count)) w
       unfolding inspects isStanding areLines
       stop-lines e = rw (a, b, e)
 
-      pub by-labels : {r : Bool} → areLines (levelTable (p .fields) (p .levels) (s .count)) ≡ true → r ≡ areLabels (fieldTable (p .fields) (s .count)) → r ≡ inspects capacity (tableOf p (s .count))
-      unfolding inspects isStanding areLines areLabels
-      by-labels e h = rw (a, b, e, h)
+      module _ (l : areLines (levelTable (p .fields) (p .levels) (s .count)) ≡ true) where
+        pub stop-labels : areLabels (fieldTable (p .fields) (s .count)) ≡ false → false ≡ inspects capacity (tableOf p (s .count)) w
+        unfolding inspects isStanding areLines areLabels
+        stop-labels e = rw (a, b, l, e)
+
+        pub by-tally : {r : Bool} → areLabels (fieldTable (p .fields) (s .count)) ≡ true → r ≡ isTallied (labels (p .fields)) (s .count) w → r ≡ inspects capacity (tableOf p (s .count)) w
+        unfolding inspects isStanding areLines areLabels
+        by-tally e h = rw (a, b, l, e, h)

@@ -1,1 +1,1 @@
-// Laws only: inspection says yes exactly when all six rules hold. No code.
+// Laws only: inspection says yes exactly when all six rules hold and the tally is true. No code.

@@ -16,7 +16,7 @@ use Rattle.tree_laws.specs.Top.{topWithin, topOf}
 use Rattle.table.specs.Table.{Table}
 use Rattle.layer.specs.Layer.{parent, depth}
 use Rattle.inspect_lines_laws.specs.Lines.{isInTree, isRooted, areRoots, isLevelOn}
-use Rattle.inspect_tree.specs.Cells.{read-put, read-fill}
+use Rattle.cells.specs.Cells.{read-put, read-fill}
 
 -- what is met on the way up from the root
 abbrev pub met : (ℕ → ℕ) → (ℕ → ℕ) → ℕ → ℕ → Bool

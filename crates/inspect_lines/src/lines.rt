@@ -1,7 +1,7 @@
 // Rule 1, lines and levels: the root that the first row of each tree records, and the levels, which count from the line to it.
-use inspect_tree::cells::cell;
-use inspect_tree::cells::fill;
-use inspect_tree::cells::put;
+use cells::cell;
+use cells::fill;
+use cells::put;
 use layer::layout::DEPTH;
 use layer::layout::NONE;
 use layer::layout::PARENT;

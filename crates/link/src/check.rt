@@ -3,12 +3,13 @@ use growth_plan::leaf::is_label;
 use inspect::is_ours;
 use layer::layout::NONE;
 use table::capacity::Fit;
-use table::capacity::capacity;
 use table::refusal::Refusal;
 use table::state::State;
 use table::state::is_standing;
 use table::tree::root_of;
 use table::tree::tree_of;
+use tally::count::is_movable;
+use tally::fit::capacity_with;
 ghost use mathlib.Core.Path.{_≡_};
 ghost use lib.ListN.{length};
 ghost use Rattle.table.specs.Parts.{partsOf};
@@ -32,15 +33,16 @@ pub fn check_link(
     numbers: &[u64],
     levels: &[i32],
     ancestors: &[u16],
+    tally: &[u16],
     scratch: &[u16],
     state: State,
     x: u16,
     v: u16,
     door: u16,
 ) -> Checked
-    ensures { λ r. ⌜ r ≡ linkChecked (partsOf (now (fields .entry)) (now (numbers .entry)) (now (levels .entry)) (now (ancestors .entry))) (length (now (scratch .entry))) state x v door ⌝ }
+    ensures { λ r. ⌜ r ≡ linkChecked (partsOf (now (fields .entry)) (now (numbers .entry)) (now (levels .entry)) (now (ancestors .entry))) (now (tally .entry)) (length (now (scratch .entry))) state x v door ⌝ }
 {
-    let Fit::Capacity(cap) = capacity(fields, numbers, levels, ancestors) else {
+    let Fit::Capacity(cap) = capacity_with(fields, numbers, levels, ancestors, tally) else {
         return Checked::Refuse(Refusal::Misfit);
     };
     if scratch.len() != cap {
@@ -73,7 +75,10 @@ pub fn check_link(
     if receiving == tree {
         return Checked::Refuse(Refusal::SameTree);
     }
-    if !is_ours(fields, numbers, levels, ancestors, cap, state) {
+    if !is_ours(fields, numbers, levels, ancestors, tally, cap, state) {
+        return Checked::Refuse(Refusal::Corrupt);
+    }
+    if !is_movable(tally, cap, 0, door) {
         return Checked::Refuse(Refusal::Corrupt);
     }
     Checked::Serve(Trees {

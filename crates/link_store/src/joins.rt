@@ -1,10 +1,10 @@
 // The joins of a link: the rows that wait, each alone, come one after another under the rows that their root fields name.
+use cells::cell;
 use growth_plan::level::Level;
 use growth_plan::level::leaf_level;
 use growth_plan::row::Planned;
 use growth_plan::row::plan_row;
 use growth_store::store::store;
-use inspect_tree::cells::cell;
 use layer::layout::NONE;
 use layer::row::field;
 use table::layout::LABEL;

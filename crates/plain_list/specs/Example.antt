@@ -10,6 +10,7 @@ use Rattle.plain_list.specs.Naive.{naiveAnswer, naiveSame, naiveRoot}
 use Rattle.plain_list.specs.PlainStep.{PlainCall, first, leaf, root, rootOver, link, question, alike, inspection}
 use Rattle.plain_list.specs.PlainStep.{PlainReply, refusal, node, linked, answered, same, passes, treeCount, plainOutcome, plainRun}
 use Rattle.plain_list.specs.StoredList.{storedRun, storedBelow}
+use Rattle.plain_list.specs.PlainTally.{occurrences}
 
 -- an answer in the order of a printed line: nearest common ancestor, branches, distances, label
 abbrev answer : (a b c d e l : ℕ) → PlainReply
@@ -77,3 +78,16 @@ coupled-run = refl
 coupled-stored : storedRun 6 emptyList [] coupled ≡ 5 ∷ 0 ∷ 4 ∷ 2 ∷ 1 ∷ none ∷ []
 unfolding storedRun plainOutcome naiveAnswer naiveSame naiveRoot treeCount withNode withLink tabulate
 coupled-stored = refl
+
+-- at capacity 4: labels 0 and 5 are carried by two nodes each; then a link takes one from 0 and gives it to 9, so that 5 is the commonest, which neither
+-- of the two entries that change can tell
+abbrev tied : List PlainCall
+tied = first 4 ∷ first 4 ∷ leaf 0 5 4 ∷ leaf 0 5 4 ∷ link 1 2 9 4 ∷ []
+
+tied-labels : plainRun 4 emptyList tied .last .labels ≡ 0 ∷ 9 ∷ 5 ∷ 5 ∷ []
+unfolding plainRun plainOutcome naiveRoot treeCount withNode withLink
+tied-labels = refl
+
+tied-counts : occurrences (0 ∷ 9 ∷ 5 ∷ 5 ∷ []) 0 ∷ occurrences (0 ∷ 9 ∷ 5 ∷ 5 ∷ []) 5 ∷ occurrences (0 ∷ 9 ∷ 5 ∷ 5 ∷ []) 9 ∷ [] ≡ 1 ∷ 2 ∷ 1 ∷ []
+unfolding occurrences
+tied-counts = refl

@@ -1,4 +1,5 @@
 -- What a call on the table prints, renumbers and leaves, by the very definitions that the calls' contracts name.
+use mathlib.Core.List.{List}
 use Prim.Native.Nat.{ℕ}
 use Rattle.table.specs.Parts.{Parts}
 use Rattle.table.specs.declared.state.State.{State}
@@ -19,10 +20,10 @@ reportBy q t = record { printed = printedBy q t; rows = rowsIn (t .reply); after
 unfoldable pub report : Fast → Call → Report
 report f q = reportBy q (step f q)
 
--- the lent parts with their count
-abbrev pub fastOf : Parts → State → Fast
-fastOf t s = record { parts = t; state = s }
+-- the lent parts and the tally with their count
+abbrev pub fastOf : Parts → List ℕ → State → Fast
+fastOf t w s = record { parts = t; tally = w; state = s }
 
--- what the code answers, on the parts as it leaves them
-abbrev pub reportOf : Parts → Served → Report
-reportOf t r = record { printed = printedOf (r .shown); rows = r .rows; after = fastOf t (r .state) }
+-- what the code answers, on the parts and the tally as it leaves them
+abbrev pub reportOf : Parts → List ℕ → Served → Report
+reportOf t w r = record { printed = printedOf (r .shown); rows = r .rows; after = fastOf t w (r .state) }

@@ -25,20 +25,21 @@ pub record OfGrowth (letter : ℕ) (t : Parts) (s : State) (g : Outcome) (r : Se
   pub rows : r .rows ≡ rowsIn (grownReply g)
   pub state : r .state ≡ stateAfter s g
 
-growth-report : (q : Call) (t : Parts) (s : State) (g : Outcome) (r : Served) → OfGrowth (letterOf q) t s g r
-    → reportOf t r ≡ reportBy q (afterGrowth s (result t g))
-growth-report q t s g r o = rw (o .shown, o .rows, o .state)
+growth-report : (q : Call) (t : Parts) (w : List ℕ) (s : State) (g : Outcome) (r : Served) → OfGrowth (letterOf q) t s g r
+    → reportOf t w r ≡ reportBy q (afterGrowth s (result t w g))
+growth-report q t w s g r o = rw (o .shown, o .rows, o .state)
 
-module _ (t u : Parts) (s : State) (g : Outcome) (r : Served) where
-  pub leaf-report : (v l : ℕ) (scratch : List ℕ) → result u g ≡ addLeaf t (length scratch) s v l → OfGrowth (letterOf (leaf v l scratch)) u s g r
-      → reportOf u r ≡ report (fastOf t s) (leaf v l scratch)
+-- from the parts t and the tally w to u and w′
+module _ (t u : Parts) (w w′ : List ℕ) (s : State) (g : Outcome) (r : Served) where
+  pub leaf-report : (v l : ℕ) (scratch : List ℕ) → result u w′ g ≡ addLeaf t w (length scratch) s v l → OfGrowth (letterOf (leaf v l scratch)) u s g r
+      → reportOf u w′ r ≡ report (fastOf t w s) (leaf v l scratch)
   unfolding report step
-  leaf-report v l scratch e o = rw (← e) (growth-report (leaf v l scratch) u s g r o)
+  leaf-report v l scratch e o = rw (← e) (growth-report (leaf v l scratch) u w′ s g r o)
 
-  pub root-report : (scratch : List ℕ) → result u g ≡ addRoot t (length scratch) s → OfGrowth (letterOf (root scratch)) u s g r
-      → reportOf u r ≡ report (fastOf t s) (root scratch)
+  pub root-report : (scratch : List ℕ) → result u w′ g ≡ addRoot t w (length scratch) s → OfGrowth (letterOf (root scratch)) u s g r
+      → reportOf u w′ r ≡ report (fastOf t w s) (root scratch)
   unfolding report step
-  root-report scratch e o = rw (← e) (growth-report (root scratch) u s g r o)
+  root-report scratch e o = rw (← e) (growth-report (root scratch) u w′ s g r o)
 
 -- a question or alike, which changes nothing, prints no level and renumbers no row
 
@@ -58,17 +59,17 @@ alike-rows : (o : AlikeOutcome) → 0 ≡ rowsIn (alikeReply o)
 alike-rows (noValue n) = refl
 alike-rows (same b) = refl
 
-module _ (t : Parts) (s : State) (x y : ℕ) (shown : Shown) where
+module _ (t : Parts) (w : List ℕ) (s : State) (x y : ℕ) (shown : Shown) where
   -- the code's answer where nothing changed
   abbrev pub unchanged : Served
   unchanged = record { state = s; rows = 0; shown = shown }
 
   pub question-report : (o : QuestionOutcome) → o ≡ ask t s x y → printedOf shown ≡ printed questionLetter (levelAt []) (questionReply o)
-      → reportOf t unchanged ≡ report (fastOf t s) (question x y)
+      → reportOf t w unchanged ≡ report (fastOf t w s) (question x y)
   unfolding report step
   question-report o e p = rw (← e, p, question-levels (levelAt (t .levels)) o, ← question-rows o)
 
   pub alike-report : (o : AlikeOutcome) → o ≡ compare t s x y → printedOf shown ≡ printed alikeLetter (levelAt []) (alikeReply o)
-      → reportOf t unchanged ≡ report (fastOf t s) (alike x y)
+      → reportOf t w unchanged ≡ report (fastOf t w s) (alike x y)
   unfolding report step
   alike-report o e p = rw (← e, p, alike-levels (levelAt (t .levels)) o, ← alike-rows o)

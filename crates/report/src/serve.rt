@@ -10,6 +10,8 @@ use growth::add_root;
 use query::characteristic_ancestors;
 use table::state::State;
 ghost use mathlib.Core.Path.{_≡_};
+ghost use mathlib.Core.List.{List};
+ghost use Prim.Native.Nat.{ℕ};
 ghost use Rattle.table.specs.Parts.{levelAt, partsOf};
 ghost use Rattle.growth.specs.Outcome.{outcomeOf as growthOf};
 ghost use Rattle.sequence.specs.Calls.{leaf, root, question, alike};
@@ -53,18 +55,20 @@ pub fn serve_leaf(
     numbers: &mut [u64],
     levels: &mut [i32],
     ancestors: &mut [u16],
+    tally: &mut [u16],
     scratch: &[u16],
     state: State,
     parent: u16,
     label: u16,
 ) -> Served
-    ensures { λ r. ⌜ reportOf (partsOf (now (fields .exit)) (now (numbers .exit)) (now (levels .exit)) (now (ancestors .exit))) r ≡ report (fastOf (partsOf (now (fields .entry)) (now (numbers .entry)) (now (levels .entry)) (now (ancestors .entry))) state) (leaf parent label (now (scratch .entry))) ⌝ }
+    ensures { λ r. ⌜ reportOf (partsOf (now (fields .exit)) (now (numbers .exit)) (now (levels .exit)) (now (ancestors .exit))) (now (tally .exit)) r ≡ report (fastOf (partsOf (now (fields .entry)) (now (numbers .entry)) (now (levels .entry)) (now (ancestors .entry))) (now (tally .entry)) state) (leaf parent label (now (scratch .entry))) ⌝ }
 {
     let g = add_leaf(
         fields,
         numbers,
         levels,
         ancestors,
+        tally,
         scratch,
         state,
         parent,
@@ -78,15 +82,17 @@ pub fn serve_root(
     numbers: &mut [u64],
     levels: &mut [i32],
     ancestors: &mut [u16],
+    tally: &mut [u16],
     scratch: &[u16],
     state: State,
 ) -> Served
-    ensures { λ r. ⌜ reportOf (partsOf (now (fields .exit)) (now (numbers .exit)) (now (levels .exit)) (now (ancestors .exit))) r ≡ report (fastOf (partsOf (now (fields .entry)) (now (numbers .entry)) (now (levels .entry)) (now (ancestors .entry))) state) (root (now (scratch .entry))) ⌝ }
+    ensures { λ r. ⌜ reportOf (partsOf (now (fields .exit)) (now (numbers .exit)) (now (levels .exit)) (now (ancestors .exit))) (now (tally .exit)) r ≡ report (fastOf (partsOf (now (fields .entry)) (now (numbers .entry)) (now (levels .entry)) (now (ancestors .entry))) (now (tally .entry)) state) (root (now (scratch .entry))) ⌝ }
 {
-    let g = add_root(fields, numbers, levels, ancestors, scratch, state);
+    let g = add_root(fields, numbers, levels, ancestors, tally, scratch, state);
     after_growth(b'T', levels, state, g)
 }
 
+// The tally is not lent; whatever it is, it stays.
 pub fn serve_question(
     fields: &[u16],
     numbers: &[u64],
@@ -96,7 +102,7 @@ pub fn serve_question(
     x: u16,
     y: u16,
 ) -> Served
-    ensures { λ r. ⌜ reportOf (partsOf (now (fields .entry)) (now (numbers .entry)) (now (levels .entry)) (now (ancestors .entry))) r ≡ report (fastOf (partsOf (now (fields .entry)) (now (numbers .entry)) (now (levels .entry)) (now (ancestors .entry))) state) (question x y) ⌝ }
+    ensures { λ r. ⌜ ((w : List ℕ) → reportOf (partsOf (now (fields .entry)) (now (numbers .entry)) (now (levels .entry)) (now (ancestors .entry))) w r ≡ report (fastOf (partsOf (now (fields .entry)) (now (numbers .entry)) (now (levels .entry)) (now (ancestors .entry))) w state) (question x y)) ⌝ }
 {
     let a = characteristic_ancestors(fields, numbers, levels, ancestors, state, x, y);
     Served {
@@ -106,6 +112,7 @@ pub fn serve_question(
     }
 }
 
+// The tally is not lent; whatever it is, it stays.
 pub fn serve_alike(
     fields: &[u16],
     numbers: &[u64],
@@ -115,7 +122,7 @@ pub fn serve_alike(
     x: u16,
     y: u16,
 ) -> Served
-    ensures { λ r. ⌜ reportOf (partsOf (now (fields .entry)) (now (numbers .entry)) (now (levels .entry)) (now (ancestors .entry))) r ≡ report (fastOf (partsOf (now (fields .entry)) (now (numbers .entry)) (now (levels .entry)) (now (ancestors .entry))) state) (alike x y) ⌝ }
+    ensures { λ r. ⌜ ((w : List ℕ) → reportOf (partsOf (now (fields .entry)) (now (numbers .entry)) (now (levels .entry)) (now (ancestors .entry))) w r ≡ report (fastOf (partsOf (now (fields .entry)) (now (numbers .entry)) (now (levels .entry)) (now (ancestors .entry))) w state) (alike x y)) ⌝ }
 {
     let c = same_labels(fields, numbers, levels, ancestors, state, x, y);
     Served {

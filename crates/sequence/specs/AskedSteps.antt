@@ -19,6 +19,7 @@ use Rattle.query.specs.Outcome.{Outcome as QuestionOutcome, refused as noAnswer
 use Rattle.query.specs.Question.{question as ask}
 use Rattle.query.specs.QuestionLaws.{question-unknown-x, question-unknown-y}
 use Rattle.table.specs.CapacityLaws.{fits-told}
+use Rattle.tally.specs.FitLaws.{with-told}
 use Rattle.query_exact.specs.QuestionExact.{given, question-exact, question-other-tree}
 use Rattle.alike.specs.Outcome.{Outcome as AlikeOutcome, refused as noValue}
 use Rattle.alike.specs.Alike.{alike as compare}
@@ -134,13 +135,13 @@ module _ {c : ℕ} {f : Fast} {p : PlainList} {stored : StoredList} {total joini
 
   -- Inspection
 
-  inspection-is : (n : ℕ) → n ≡ c → inspect (f .parts) n (f .state) ≡ inspectionPasses true
+  inspection-is : (n : ℕ) → n ≡ c → inspect (f .parts) (f .tally) n (f .state) ≡ inspectionPasses true
   unfolding inspect
-  inspection-is n e = rw (fits-told (s .fits), eq-eqb n c e, says-true (inspect-exact c (tableIn f) (s .fits .most)) (s .rules)) refl
+  inspection-is n e = rw (with-told (f .parts) (f .tally) (s .fits) (s .tally .long), eq-eqb n c e, says-true (inspect-exact c (tableIn f) (f .tally) (s .fits .most) (s .tally .long)) record { rules = s .rules; tally = s .tally }) refl
 
-  inspection-not : (n : ℕ) → n ≢ c → inspect (f .parts) n (f .state) ≡ notInspected Misfit
+  inspection-not : (n : ℕ) → n ≢ c → inspect (f .parts) (f .tally) n (f .state) ≡ notInspected Misfit
   unfolding inspect
-  inspection-not n d = rw (fits-told (s .fits), ne-eqb n c d) refl
+  inspection-not n d = rw (with-told (f .parts) (f .tally) (s .fits) (s .tally .long), ne-eqb n c d) refl
 
   pub inspection-step : (scratch : List ℕ) → StepStands c f p stored total joinings (inspection scratch) (plainOutcome c p (plainInspection (length scratch)))
       (step f (inspection scratch))

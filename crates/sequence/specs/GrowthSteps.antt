@@ -88,7 +88,7 @@ module _ {c : ℕ} {f : Fast} {p : PlainList} {stored : StoredList} {total joini
         → StepStands c f p stored total joinings (first scratch) (plainOutcome c p (plainFirst (length scratch))) (step f (first scratch))
     unfolding step
     first-served e n =
-        let x = first-exact (f .parts) (f .state) (s .fits) (s .rules) (room n) (length scratch) e in
+        let x = first-exact (f .parts) (f .state) (s .fits) (s .rules) (room n) (f .tally) (s .tally) (length scratch) e in
         rw (plainly.first-served c p (length scratch) e n) (started-step s _ x begins-first (first-next n x))
 
     pub first-step : StepStands c f p stored total joinings (first scratch) (plainOutcome c p (plainFirst (length scratch))) (step f (first scratch))
@@ -114,7 +114,7 @@ module _ {c : ℕ} {f : Fast} {p : PlainList} {stored : StoredList} {total joini
         → StepStands c f p stored total joinings (leaf v l scratch) (plainOutcome c p (plainLeaf v l (length scratch))) (step f (leaf v l scratch))
     unfolding step
     leaf-served e h i j n =
-        let x = leaf-exact (f .parts) (f .state) (s .fits) (s .rules) (length scratch) e (room n) v l (in-use s h) i j in
+        let x = leaf-exact (f .parts) (f .tally) (f .state) (s .fits) (s .rules) (s .tally) (length scratch) e (room n) v l (in-use s h) i j in
         rw (plainly.leaf-served c p v l (length scratch) e h i j n) (grown-step s _ x asks-leaf (leaf-next n h x))
 
     leaf-unlabelled : length scratch ≡ c → v < countOf p → ¬ ((1 ≤ l) × (l ≤ labelLimit))
@@ -160,7 +160,7 @@ module _ {c : ℕ} {f : Fast} {p : PlainList} {stored : StoredList} {total joini
     unfolding step
     root-served-first e n z =
         let k : f .state .count ≡ 0 = sym (s .count) ∙ z in
-        let x = root-first-exact (f .parts) (f .state) (s .fits) (s .rules) (room n) (length scratch) e k in
+        let x = root-first-exact (f .parts) (f .state) (s .fits) (s .rules) (room n) (f .tally) (s .tally) (length scratch) e k in
         rw (plainly.root-served-first c p (length scratch) e n z) (started-step s _ x (begins-root k) (first-next n x))
 
     root-served : length scratch ≡ c → countOf p ≢ c → countOf p ≢ 0
@@ -168,7 +168,7 @@ module _ {c : ℕ} {f : Fast} {p : PlainList} {stored : StoredList} {total joini
     unfolding step
     root-served e n z =
         let l : 0 < countOf p = omega arith in
-        let x = root-exact (f .parts) (f .state) (s .fits) (s .rules) (length scratch) e (room n) (in-use s l) in
+        let x = root-exact (f .parts) (f .tally) (f .state) (s .fits) (s .rules) (s .tally) (length scratch) e (room n) (in-use s l) in
         let t : parentOf p (rootOf (tableIn f) 0) ≡ none = ap (parentOf p) (sym (root-shown s 0 l)) ∙ root-first (s .proper) 0 l .top in
         rw (plainly.root-served c p (length scratch) e n z, root-shown s 0 l) (grown-step s _ x asks-root (root-next n (root-known s 0 l) t x))
 
@@ -195,7 +195,7 @@ module _ {c : ℕ} {f : Fast} {p : PlainList} {stored : StoredList} {total joini
         → StepStands c f p stored total joinings (rootOver x scratch) (plainOutcome c p (plainOver x (length scratch))) (step f (rootOver x scratch))
     unfolding step
     over-served e h t n =
-        let y = over-exact (f .parts) (f .state) (s .fits) (s .rules) (length scratch) e (room n) x (in-use s h) (top-root s h t) in
+        let y = over-exact (f .parts) (f .tally) (f .state) (s .fits) (s .rules) (s .tally) (length scratch) e (room n) x (in-use s h) (top-root s h t) in
         rw (plainly.over-served c p x (length scratch) e h t n) (grown-step s _ y asks-over (root-next n h t y))
 
     over-known : length scratch ≡ c → x < countOf p

@@ -19,7 +19,9 @@ use Rattle.growth_plan.specs.declared.row.Planned.{Planned}
 use Rattle.growth_plan.specs.declared.row.Planned.the-variants.{Refuse}
 use Rattle.growth_plan.specs.Plan.{isLabel}
 use Rattle.growth.specs.Outcome.{Outcome}
+use Rattle.tally.specs.FitLaws.{with-told}
 use Rattle.growth.specs.Growth.{Result, grownBy}
+use Rattle.growth.specs.GrowthLaws.{grow-refused}
 use Rattle.growth_laws.specs.Growth.{Growth, Named, named-root, parentOf}
 use Rattle.growth_laws.specs.Grown.{Grown, Started}
 use Rattle.layer_laws.specs.Numbered.{shape}
@@ -39,6 +41,7 @@ use Rattle.sequence.specs.Run.{Fast, tableIn, Turn, replies, grownReply,
 use Rattle.sequence.specs.Agrees.{Agrees, nodes}
 use Rattle.sequence.specs.Invariant.{Stands}
 use Rattle.sequence.specs.StepExact.{Asks, asks-leaf, asks-root, asks-over, Begins, begins-first, begins-root, Renumbers, growth, start, StepStands, few-rows}
+use Rattle.sequence.specs.Tally.{tally-shown}
 use Rattle.sequence.specs.Trees.{root-shown}
 use Rattle.sequence.specs.AskedSteps.{steps-by, still-refused}
 
@@ -85,7 +88,7 @@ module _ {c : ℕ} {f : Fast} {p : PlainList} {stored : StoredList} {total joini
   module _ (o : Result) where
     -- the turn that a growth takes
     abbrev turn : Outcome → Turn
-    turn y = record { reply = grownReply y; after = record { parts = o .parts; state = stateAfter (f .state) y } }
+    turn y = record { reply = grownReply y; after = record { parts = o .parts; tally = o .tally; state = stateAfter (f .state) y } }
 
     pub grown-step : {q : Call} {g : Growth} {p′ : PlainList} → GrownExactly c (f .parts) (f .state) g o → Asks (tableIn f) q g
         → Next (tableGrown (f .state) o) p′ → StepStands c f p stored total joinings q (grows p p′) (afterGrowth (f .state) o)
@@ -96,11 +99,13 @@ module _ {c : ℕ} {f : Fast} {p : PlainList} {stored : StoredList} {total joini
         renumbers = λ m k h i. renumbered (ap headIn i) (sym (ap rowsIn i) ∙ below);
         links = λ k h i. absurd (let z : _≡_ {A = ℕ} 0 1 = cc in omega arith);
         stored = after;
+        tally = tally-shown (n .proper) (n .shows) (n .count ∙ ap suc (s .count)) (e .tally);
         kept = λ n i. absurd (let z : _≡_ {A = ℕ} 0 1 = cc in omega arith);
       };
       stands = record {
         fits = e .fits;
         rules = e .rules;
+        tally = e .tally;
         proper = n .proper;
         shows = n .shows;
         count = n .count ∙ ap suc (s .count);
@@ -129,11 +134,13 @@ module _ {c : ℕ} {f : Fast} {p : PlainList} {stored : StoredList} {total joini
         renumbers = λ m k h i. start a (e .started) (e .frame) (sym (ap rowsIn i)) (sym (ap headIn i));
         links = λ k h i. absurd (let z : _≡_ {A = ℕ} 0 1 = cc in omega arith);
         stored = stored-begun (e .started) a;
+        tally = tally-shown (n .proper) (n .shows) (n .count ∙ ap suc (s .count)) (e .tally);
         kept = λ n i. absurd (let z : _≡_ {A = ℕ} 0 1 = cc in omega arith);
       };
       stands = record {
         fits = e .fits;
         rules = e .rules;
+        tally = e .tally;
         proper = n .proper;
         shows = n .shows;
         count = n .count ∙ ap suc (s .count);
@@ -147,10 +154,9 @@ module _ {c : ℕ} {f : Fast} {p : PlainList} {stored : StoredList} {total joini
   pub fit : Capacity c ≡ capacityOf (f .parts)
   fit = sym (fits-told (s .fits))
 
-  refused-by : (r : Refusal) (z : Planned) → Refuse r ≡ z → afterGrowth (f .state) (grownBy (f .parts) z) ≡ replies f (refusal (numberOf r))
-  unfolding grownBy
-  refused-by r z e = ap (λ (z : Planned). afterGrowth (f .state) (grownBy (f .parts) z)) (sym e)
+  refused-by : (r : Refusal) (z : Planned) → Refuse r ≡ z → afterGrowth (f .state) (grownBy (f .parts) (f .tally) z) ≡ replies f (refusal (numberOf r))
+  refused-by r z e = ap (afterGrowth (f .state)) (sym (grow-refused (f .parts) (f .tally) z c (sym (with-told (f .parts) (f .tally) (s .fits) (s .tally .long))) r (sym e)))
 
   pub grown-refused : (q : Call) {o : PlainOutcome} (r : Refusal) (z : Planned) → o ≡ refusalOf (numberOf r) p → Refuse r ≡ z
-      → StepStands c f p stored total joinings q o (afterGrowth (f .state) (grownBy (f .parts) z))
+      → StepStands c f p stored total joinings q o (afterGrowth (f .state) (grownBy (f .parts) (f .tally) z))
   grown-refused q r z e i = steps-by s q (plainRefusal (numberOf r)) (refusal (numberOf r)) e (refused-by r z i) (still-refused s q (numberOf r))

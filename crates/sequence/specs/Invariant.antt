@@ -1,18 +1,23 @@
--- What stands between two calls: the table passes inspection, its plain trees are the plain list's, its stored trees the stored list's, and the rows
+-- What stands between two calls: the table passes inspection, its tally too, its plain trees are the plain list's, its stored trees the stored list's, and the rows
 -- renumbered so far are paid for.
 use mathlib.Core.Path.{_≡_, refl, _∙_}
-use mathlib.Core.List.{[]}
+use mathlib.Core.List.{List, []}
 use Prim.Native.Nat.{ℕ}
 use Rattle.table.specs.Parts.{Parts}
 use Rattle.table.specs.Capacity.{Fits}
+use Rattle.table.specs.Table.{tableOf}
 use Rattle.layer.specs.Layer.{parent}
 use Rattle.table.specs.PlainTree.{plain}
 use Rattle.table.specs.Rules.{Rules}
-use Rattle.table.specs.CapacityLaws.{fits-told}
+use Rattle.tally.specs.Layout.{tallyLength}
+use Rattle.tally.specs.Tally.{TallyOf}
+use Rattle.tally.specs.FitLaws.{with-told}
+use Rattle.tally_exact.specs.CountExact.{cleared-tallied}
 use Rattle.join_laws.specs.Lag.{Paid}
 use Rattle.growth_laws.specs.EmptyTable.{total-empty}
+use lib.ListN.{length, replicate}
 use Rattle.laws.specs.Tabulate.{length-tabulate}
-use Rattle.set_up.specs.Blank.{blank, partsAfter}
+use Rattle.set_up.specs.Blank.{blank, partsAfter, tallyAfter}
 use Rattle.set_up.specs.BlankLaws.{empty-rules}
 use Rattle.plain_list.specs.PlainList.{PlainList, emptyList, countOf}
 use Rattle.plain_list.specs.Proper.{Proper, proper-empty}
@@ -25,6 +30,7 @@ use Rattle.sequence.specs.Run.{Fast, tableIn, start}
 pub record Stands (c : ℕ) (f : Fast) (p : PlainList) (l : StoredList) (total joinings : ℕ) : Type 0 where
   pub fits : Fits c (f .parts)
   pub rules : Rules c (tableIn f)
+  pub tally : TallyOf (tableIn f) (f .tally)
   pub proper : Proper c p
   pub shows : Shows (plain (tableIn f)) (tableIn f .label) p
   pub count : countOf p ≡ f .state .count
@@ -44,17 +50,26 @@ blank-fits c parts f = record {
   ancestors = length-tabulate _ _ ∙ f .ancestors;
 }
 
-pub start-fits : (c : ℕ) (parts : Parts) → Fits c parts → Fits c (partsAfter parts)
-unfolding partsAfter
-start-fits c parts f = rw (fits-told f) (blank-fits c parts f)
+module _ (c : ℕ) (parts : Parts) (tally : List ℕ) (f : Fits c parts) (long : length tally ≡ tallyLength) where
+  pub start-fits : Fits c (partsAfter parts tally)
+  unfolding partsAfter
+  start-fits = rw (with-told parts tally f long) (blank-fits c parts f)
 
-pub start-stands : (c : ℕ) (parts : Parts) → Fits c parts → Stands c (start parts) emptyList [] 0 0
-start-stands c parts f = record {
-  fits = start-fits c parts f;
-  rules = empty-rules c (tableIn (start parts)) refl;
-  proper = proper-empty;
-  shows = shows-empty (plain (tableIn (start parts))) (tableIn (start parts) .label);
-  count = refl;
-  stored = stores-empty (parent (tableIn (start parts) .layer));
-  paid = total-empty (tableIn (start parts)) refl;
-}
+  start-cleared : tallyAfter parts tally ≡ replicate tallyLength 0
+  unfolding tallyAfter
+  start-cleared = rw (with-told parts tally f long, long)
+
+  start-tallied : TallyOf (tableOf (partsAfter parts tally) 0) (tallyAfter parts tally)
+  start-tallied = rw start-cleared (cleared-tallied (tableOf (partsAfter parts tally) 0 .label))
+
+  pub start-stands : Stands c (start parts tally) emptyList [] 0 0
+  start-stands = record {
+    fits = start-fits;
+    rules = empty-rules c (tableIn (start parts tally)) refl;
+    tally = start-tallied;
+    proper = proper-empty;
+    shows = shows-empty (plain (tableIn (start parts tally))) (tableIn (start parts tally) .label);
+    count = refl;
+    stored = stores-empty (parent (tableIn (start parts tally) .layer));
+    paid = total-empty (tableIn (start parts tally)) refl;
+  }

@@ -2,6 +2,7 @@ pub mod Calls
 pub mod Run
 pub mod Agrees
 pub mod Invariant
+pub mod Tally
 pub mod StepExact
 pub mod Trees
 pub mod AskedSteps

@@ -16,6 +16,7 @@ use Rattle.table.specs.declared.refusal.Refusal.{Refusal}
 use Rattle.table.specs.declared.refusal.Refusal.the-variants.{UnknownNode, Misfit, BadLabel, NotRoot, SameTree}
 use Rattle.table.specs.Refusal.{numberOf}
 use Rattle.table.specs.Table.{tableOf}
+use Rattle.table.specs.PlainTree.{plain}
 use Rattle.layer.specs.Layer.{parent}
 use Rattle.layer.specs.StoredTree.{first}
 use Rattle.table.specs.Rules.{labelLimit}
@@ -30,8 +31,8 @@ use Rattle.plain_list.specs.PlainList.{PlainList, countOf, parentOf, withLink}
 use Rattle.plain_list.specs.PlainListLaws.{link-count, link-parent-root, link-parent-other}
 use Rattle.plain_list.specs.PlainStep.{refusal as plainRefusal, linked as plainLinked, link as plainLink, refusalOf, rootIn, treeCount, plainOutcome}
 use Rattle.plain_list.specs.PlainStepLaws as plainly
-use Rattle.plain_list.specs.Proper.{root-own, proper-link}
-use Rattle.plain_list.specs.Shows.{shows-link}
+use Rattle.plain_list.specs.Proper.{Proper, root-own, proper-link}
+use Rattle.plain_list.specs.Shows.{Shows, shows-link}
 use Rattle.plain_list.specs.StoredList.{StoredList, relinked}
 use Rattle.plain_list.specs.Stores.{Stores, stores-link}
 use Rattle.sequence.specs.Calls.{link, refusal}
@@ -39,6 +40,7 @@ use Rattle.sequence.specs.Run.{Fast, tableIn, Turn, linkReply, afterLink
 use Rattle.sequence.specs.Agrees.{links}
 use Rattle.sequence.specs.Invariant.{Stands}
 use Rattle.sequence.specs.StepExact.{joinings, StepStands, few-rows}
+use Rattle.sequence.specs.Tally.{tally-shown}
 use Rattle.sequence.specs.Trees.{in-use, known, tree-roots, roots-tree, root-top, top-root}
 use Rattle.sequence.specs.AskedSteps.{steps-by, still-refused}
 use Rattle.sequence.specs.Growths.{says-label}
@@ -76,7 +78,7 @@ module _ {c : ℕ} {f : Fast} {p : PlainList} {stored : StoredList} {total joine
 
     -- the turn that it takes
     abbrev turn : Result → Outcome → Turn
-    turn o y = record { reply = linkReply y; after = record { parts = o .parts; state = f .state } }
+    turn o y = record { reply = linkReply y; after = record { parts = o .parts; tally = o .tally; state = f .state } }
 
     linked-step : {o : Result} → x < countOf p → v < countOf p → parentOf p x ≡ none → rootIn p v ≢ x → LinkedExactly c (f .parts) (f .state) x v door o
         → StepStands c f p stored total joined (link x v door scratch) (record { reply = plainLinked; after = withLink p x v door; joined = treeCount p x })
@@ -88,23 +90,34 @@ module _ {c : ℕ} {f : Fast} {p : PlainList} {stored : StoredList} {total joine
         renumbers = λ n k h i. absurd (let z : _≡_ {A = ℕ} 0 1 = cc in omega arith);
         links = λ k h i. joinings (rw (ap rowsIn i) at (e .linked)) (e .frame) (sym (ap headIn i));
         stored = after;
+        tally = tally-shown proper shows count (e .tally);
         kept = λ n i. absurd (let z : _≡_ {A = ℕ} 0 1 = cc in omega arith);
       };
       stands = record {
         fits = e .fits;
         rules = e .rules;
-        proper = proper-link (s .proper) door h i top d;
-        shows = shows-link (s .proper) (s .shows) h
-            (e .plain .under)
-            (e .plain .labelled)
-            (λ w l n. e .plain .parents w (in-use s l) n)
-            (λ w l n. e .plain .labels w (in-use s l) n);
-        count = link-count p x v door ∙ s .count;
+        tally = e .tally;
+        proper = proper;
+        shows = shows;
+        count = count;
         stored = after;
         paid = omega (arith, s .paid, e .pays, tree-count h top);
       };
     }
       where
+        proper : Proper c (withLink p x v door)
+        proper = proper-link (s .proper) door h i top d
+
+        shows : Shows (plain (tableOf (o .parts) (f .state .count))) (tableOf (o .parts) (f .state .count) .label) (withLink p x v door)
+        shows = shows-link (s .proper) (s .shows) h
+            (e .plain .under)
+            (e .plain .labelled)
+            (λ w l n. e .plain .parents w (in-use s l) n)
+            (λ w l n. e .plain .labels w (in-use s l) n)
+
+        count : countOf (withLink p x v door) ≡ f .state .count
+        count = link-count p x v door ∙ s .count
+
         target-is : (w : ℕ) → w < countOf p → target (tableIn f) x v w ≡ parentOf (withLink p x v door) w
         target-is w l = elim (ℕ-discrete w x) [
           | yes z ↦ rw (says-true (says-eqb w x) z, z) (sym (link-parent-root p x v door h))
@@ -124,12 +137,12 @@ module _ {c : ℕ} {f : Fast} {p : PlainList} {stored : StoredList} {total joine
     unfolding step
     link-served-step e h i j k top d =
         rw (plainly.link-served c p x v door (length scratch) e h i j k top d)
-        (linked-step h i top d (link-served (f .parts) (length scratch) (f .state) x v door (s .fits) (s .rules) e (linkable h i j k top d)))
+        (linked-step h i top d (link-served (f .parts) (f .tally) (length scratch) (f .state) x v door (s .fits) (s .rules) (s .tally) e (linkable h i j k top d)))
 
     -- Refused
 
     link-refused : (r : Refusal) → plainOutcome c p (plainLink x v door (length scratch)) ≡ refusalOf (numberOf r) p
-        → linkBy (f .parts) (length scratch) (f .state) x v door ≡ result (f .parts) (notLinked r)
+        → linkBy (f .parts) (f .tally) (length scratch) (f .state) x v door ≡ result (f .parts) (f .tally) (notLinked r)
         → StepStands c f p stored total joined (link x v door scratch) (plainOutcome c p (plainLink x v door (length scratch))) (step f (link x v door scratch))
     unfolding step
     link-refused r e i = steps-by s (link x v door scratch) (plainRefusal (numberOf r)) (refusal (numberOf r)) e
@@ -144,11 +157,11 @@ module _ {c : ℕ} {f : Fast} {p : PlainList} {stored : StoredList} {total joine
         | yes d ↦ unlabelled (λ z. omega (arith, z .1))
         | no m ↦ elim (ℕ-discrete (parentOf p x) none) [
           | no d ↦ link-refused NotRoot (plainly.link-no-root c p x v door (length scratch) e h i (omega arith) (omega arith) d)
-              (link-not-root (f .parts) (length scratch) (f .state) x v door (s .fits) (s .rules) e (in-use s h) (in-use s i) (labelled (omega arith) (omega arith))
+              (link-not-root (f .parts) (f .tally) (length scratch) (f .state) x v door (s .fits) (s .rules) (s .tally) e (in-use s h) (in-use s i) (labelled (omega arith) (omega arith))
               (λ z. d (root-top s h z)))
           | yes top ↦ elim (ℕ-discrete (rootIn p v) x) [
             | yes w ↦ link-refused SameTree (plainly.link-own-tree c p x v door (length scratch) e h i (omega arith) (omega arith) top w)
-                (link-same-tree (f .parts) (length scratch) (f .state) x v door (s .fits) (s .rules) e (in-use s h) (in-use s i) (labelled (omega arith) (omega arith))
+                (link-same-tree (f .parts) (f .tally) (length scratch) (f .state) x v door (s .fits) (s .rules) (s .tally) e (in-use s h) (in-use s i) (labelled (omega arith) (omega arith))
                 (top-root s h top) (own-tree h top i w))
             | no w ↦ link-served-step e h i (omega arith) (omega arith) top w
           ]
@@ -162,18 +175,18 @@ module _ {c : ℕ} {f : Fast} {p : PlainList} {stored : StoredList} {total joine
         unlabelled : ¬ ((1 ≤ door) × (door ≤ labelLimit))
             → StepStands c f p stored total joined (link x v door scratch) (plainOutcome c p (plainLink x v door (length scratch))) (step f (link x v door scratch))
         unlabelled d = link-refused BadLabel (plainly.link-no-label c p x v door (length scratch) e h i d)
-            (link-label (f .parts) (length scratch) (f .state) x v door (s .fits) e (in-use s h) (in-use s i) (says-false (says-label door) d))
+            (link-label (f .parts) (f .tally) (length scratch) (f .state) x v door (s .fits) (s .tally .long) e (in-use s h) (in-use s i) (says-false (says-label door) d))
 
     pub link-step : StepStands c f p stored total joined (link x v door scratch) (plainOutcome c p (plainLink x v door (length scratch)))
         (step f (link x v door scratch))
     link-step = elim (ℕ-discrete (length scratch) c) [
-      | no d ↦ link-refused Misfit (plainly.link-misfit c p x v door (length scratch) d) (link-misfit (f .parts) (length scratch) (f .state) x v door (s .fits) d)
+      | no d ↦ link-refused Misfit (plainly.link-misfit c p x v door (length scratch) d) (link-misfit (f .parts) (f .tally) (length scratch) (f .state) x v door (s .fits) (s .tally .long) d)
       | yes e ↦ elim (decLt x (countOf p)) [
         | no d ↦ link-refused UnknownNode (plainly.link-unknown c p x v door (length scratch) e (λ z. d (z .0)))
-            (link-unknown-x (f .parts) (length scratch) (f .state) x v door (s .fits) e (omega (arith, s .count)))
+            (link-unknown-x (f .parts) (f .tally) (length scratch) (f .state) x v door (s .fits) (s .tally .long) e (omega (arith, s .count)))
         | yes h ↦ elim (decLt v (countOf p)) [
           | no d ↦ link-refused UnknownNode (plainly.link-unknown c p x v door (length scratch) e (λ z. d (z .1)))
-              (link-unknown-v (f .parts) (length scratch) (f .state) x v door (s .fits) e (omega (arith, s .count)))
+              (link-unknown-v (f .parts) (f .tally) (length scratch) (f .state) x v door (s .fits) (s .tally .long) e (omega (arith, s .count)))
           | yes i ↦ link-known e h i
         ]
       ]

@@ -6,7 +6,7 @@ use Rattle.tree_laws.specs.Ancestor.{none}
 use Rattle.table.specs.declared.state.State.{State}
 use Rattle.table.specs.Parts.{Parts}
 use Rattle.table.specs.Table.{Table, tableOf}
-use Rattle.set_up.specs.Blank.{partsAfter}
+use Rattle.set_up.specs.Blank.{partsAfter, tallyAfter}
 use Rattle.growth.specs.Outcome.{Outcome as GrowthOutcome, refusal as notGrown, node as newNode}
 use Rattle.growth.specs.Growth.{Result as Growth, addFirst, addLeaf, addRoot, addOver}
 use Rattle.link.specs.Outcome.{Outcome as LinkOutcome, refusal as notLinked, linked as treeLinked}
@@ -19,18 +19,19 @@ use Rattle.inspect.specs.Outcome.{Outcome as InspectionOutcome, refusal as notI
 use Rattle.inspect.specs.Inspection.{inspection as inspect}
 use Rattle.sequence.specs.Calls.{Call, first, leaf, root, rootOver, link, question, alike, inspection, Reply, refusal, node, linked, answered, same, passes}
 
--- the lent parts, with their count
+-- the lent parts and the tally, with the count
 pub record Fast : Type 0 where
   pub parts : Parts
+  pub tally : List ℕ
   pub state : State
 
 -- the table that they stand for
 abbrev pub tableIn : Fast → Table
 tableIn f = tableOf (f .parts) (f .state .count)
 
--- what set-up leaves in these parts
-abbrev pub start : Parts → Fast
-start parts = record { parts = partsAfter parts; state = record { count = 0 } }
+-- what set-up leaves in these parts and this tally
+abbrev pub start : Parts → List ℕ → Fast
+start parts tally = record { parts = partsAfter parts tally; tally = tallyAfter parts tally; state = record { count = 0 } }
 
 -- the reply to a call, and what stands after it
 pub record Turn : Type 0 where
@@ -51,7 +52,7 @@ stateAfter s (notGrown n) = s
 stateAfter s (newNode c n k h) = record { count = c }
 
 abbrev pub afterGrowth : State → Growth → Turn
-afterGrowth s g = record { reply = grownReply (g .outcome); after = record { parts = g .parts; state = stateAfter s (g .outcome) } }
+afterGrowth s g = record { reply = grownReply (g .outcome); after = record { parts = g .parts; tally = g .tally; state = stateAfter s (g .outcome) } }
 
 -- a link keeps the count
 abbrev pub linkReply : LinkOutcome → Reply
@@ -59,7 +60,7 @@ linkReply (notLinked n) = refusal n
 linkReply (treeLinked k h) = linked k h
 
 abbrev pub afterLink : State → Link → Turn
-afterLink s l = record { reply = linkReply (l .outcome); after = record { parts = l .parts; state = s } }
+afterLink s l = record { reply = linkReply (l .outcome); after = record { parts = l .parts; tally = l .tally; state = s } }
 
 abbrev pub questionReply : QuestionOutcome → Reply
 questionReply (noAnswer n) = refusal n
@@ -75,14 +76,14 @@ inspectionReply (inspectionPasses b) = passes b
 
 -- one call
 unfoldable pub step : Fast → Call → Turn
-step f (first s) = afterGrowth (f .state) (addFirst (f .parts) (length s) (f .state))
-step f (leaf v l s) = afterGrowth (f .state) (addLeaf (f .parts) (length s) (f .state) v l)
-step f (root s) = afterGrowth (f .state) (addRoot (f .parts) (length s) (f .state))
-step f (rootOver x s) = afterGrowth (f .state) (addOver (f .parts) (length s) (f .state) x)
-step f (link x v door s) = afterLink (f .state) (linkBy (f .parts) (length s) (f .state) x v door)
+step f (first s) = afterGrowth (f .state) (addFirst (f .parts) (f .tally) (length s) (f .state))
+step f (leaf v l s) = afterGrowth (f .state) (addLeaf (f .parts) (f .tally) (length s) (f .state) v l)
+step f (root s) = afterGrowth (f .state) (addRoot (f .parts) (f .tally) (length s) (f .state))
+step f (rootOver x s) = afterGrowth (f .state) (addOver (f .parts) (f .tally) (length s) (f .state) x)
+step f (link x v door s) = afterLink (f .state) (linkBy (f .parts) (f .tally) (length s) (f .state) x v door)
 step f (question x y) = replies f (questionReply (ask (f .parts) (f .state) x y))
 step f (alike x y) = replies f (alikeReply (compare (f .parts) (f .state) x y))
-step f (inspection s) = replies f (inspectionReply (inspect (f .parts) (length s) (f .state)))
+step f (inspection s) = replies f (inspectionReply (inspect (f .parts) (f .tally) (length s) (f .state)))
 
 -- the replies to a list of calls, and what stands after the last
 pub record Run : Type 0 where

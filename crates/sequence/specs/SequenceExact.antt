@@ -4,16 +4,19 @@ use mathlib.Core.Path.{_≡_}
 use mathlib.Core.List.{List, [], _∷_}
 use Prim.Native.Nat.{ℕ, _+_, _*_, _≤_}
 use native.Mathlib.Omega.{arith}
+use lib.ListN.{length}
 use Rattle.table.specs.Parts.{Parts}
 use Rattle.table.specs.Capacity.{Fits}
 use Rattle.table.specs.Rules.{Rules}
 use Rattle.layer.specs.Layer.{parent}
 use Rattle.table.specs.PlainTree.{plain}
+use Rattle.tally.specs.Layout.{tallyLength}
 use Rattle.set_up.specs.Outcome.{empty}
 use Rattle.set_up.specs.Blank.{setUp}
 use Rattle.set_up.specs.BlankLaws.{set-up-served}
 use Rattle.plain_list.specs.PlainList.{PlainList, emptyList, countOf}
 use Rattle.plain_list.specs.PlainStep.{plainOutcome, plainAfter, plainRun}
+use Rattle.plain_list.specs.PlainTally.{PlainTally}
 use Rattle.plain_list.specs.Shows.{Shows}
 use Rattle.plain_list.specs.StoredList.{StoredList, storedAfter, storedRun}
 use Rattle.plain_list.specs.Stores.{Stores}
@@ -22,6 +25,7 @@ use Rattle.sequence.specs.Calls.{Call, first, leaf, root, rootOver, link
 use Rattle.sequence.specs.Run.{Fast, tableIn, start, step, run, totalIn}
 use Rattle.sequence.specs.Agrees.{AllAgree, end, next}
 use Rattle.sequence.specs.Invariant.{Stands, start-stands}
+use Rattle.sequence.specs.Tally.{tally-shown}
 use Rattle.sequence.specs.StepExact.{StepExact, StepStands}
 use Rattle.sequence.specs.AskedSteps.{question-step, alike-step, inspection-step}
 use Rattle.sequence.specs.GrowthSteps.{first-step, leaf-step, root-step, over-step}
@@ -38,24 +42,26 @@ pub data EachExact (c : ℕ) : Fast → PlainList → StoredList → List Call �
 abbrev pub rowsPerJoining : ℕ
 rowsPerJoining = 120
 
--- the calls, one after another, from what set-up leaves in parts of capacity c
-pub record SequenceExact (c : ℕ) (parts : Parts) (calls : List Call) : Type 0 where
+-- the calls, one after another, from what set-up leaves in parts of capacity c and a tally w
+pub record SequenceExact (c : ℕ) (parts : Parts) (w : List ℕ) (calls : List Call) : Type 0 where
   -- set-up is never refused
-  pub setUp : setUp parts ≡ empty 0
+  pub setUp : setUp parts w ≡ empty 0
   -- every reply is the plain list's
-  pub replies : AllAgree (plainRun c emptyList (toldAll calls) .replies) (run (start parts) calls .replies)
+  pub replies : AllAgree (plainRun c emptyList (toldAll calls) .replies) (run (start parts w) calls .replies)
   -- each question draws on few rows; each served growth answers the rows at or below its head in the stored tree and the head, each served link those of
-  -- its joinings and the first row of the receiving tree, and both leave what their frame names; a refusal changes nothing
-  pub each : EachExact c (start parts) emptyList [] calls
+  -- its joinings and the first row of the receiving tree, and both leave what their frame names; the tally is the plain list's; a refusal changes nothing
+  pub each : EachExact c (start parts w) emptyList [] calls
   -- the rows renumbered by all calls together
-  pub total : totalIn (run (start parts) calls .replies) ≤ rowsPerJoining * plainRun c emptyList (toldAll calls) .joinings
-  -- at the end the parts fit, the table passes inspection, its count, plain trees and labels are the plain list's, its stored trees the stored list's
-  pub fits : Fits c (run (start parts) calls .last .parts)
-  pub rules : Rules c (tableIn (run (start parts) calls .last))
-  pub count : countOf (plainRun c emptyList (toldAll calls) .last) ≡ run (start parts) calls .last .state .count
-  pub shows : Shows (plain (tableIn (run (start parts) calls .last))) (tableIn (run (start parts) calls .last) .label) (plainRun c emptyList (toldAll calls) .last)
-  pub stored : Stores (parent (tableIn (run (start parts) calls .last) .layer)) (run (start parts) calls .last .state .count)
+  pub total : totalIn (run (start parts w) calls .replies) ≤ rowsPerJoining * plainRun c emptyList (toldAll calls) .joinings
+  -- at the end the parts fit, the table passes inspection, its count, plain trees and labels are the plain list's, its stored trees the stored list's, and
+  -- the tally is the full count over the plain list's labels
+  pub fits : Fits c (run (start parts w) calls .last .parts)
+  pub rules : Rules c (tableIn (run (start parts w) calls .last))
+  pub count : countOf (plainRun c emptyList (toldAll calls) .last) ≡ run (start parts w) calls .last .state .count
+  pub shows : Shows (plain (tableIn (run (start parts w) calls .last))) (tableIn (run (start parts w) calls .last) .label) (plainRun c emptyList (toldAll calls) .last)
+  pub stored : Stores (parent (tableIn (run (start parts w) calls .last) .layer)) (run (start parts w) calls .last .state .count)
       (storedRun c emptyList [] (toldAll calls))
+  pub tally : PlainTally (plainRun c emptyList (toldAll calls) .last) (run (start parts w) calls .last .tally)
 
 -- One call
 
@@ -96,12 +102,12 @@ run-exact {c} {f} {p} {l} s (q ∷ qs) =
 
 -- The theorem
 
-pub sequence-exact : (c : ℕ) (parts : Parts) → Fits c parts → (calls : List Call) → SequenceExact c parts calls
-sequence-exact c parts f calls =
-    let r = run-exact (start-stands c parts f) calls in
+pub sequence-exact : (c : ℕ) (parts : Parts) (w : List ℕ) → Fits c parts → length w ≡ tallyLength → (calls : List Call) → SequenceExact c parts w calls
+sequence-exact c parts w f long calls =
+    let r = run-exact (start-stands c parts w f long) calls in
     let s = r .stands in
     record {
-      setUp = set-up-served parts c f;
+      setUp = set-up-served parts w c f long;
       replies = r .replies;
       each = r .each;
       total = omega (arith, s .paid);
@@ -110,11 +116,12 @@ sequence-exact c parts f calls =
       count = s .count;
       shows = s .shows;
       stored = s .stored;
+      tally = tally-shown (s .proper) (s .shows) (s .count) (s .tally);
     }
 
 -- What follows from it
 
 -- where no tree was linked, at most 120 rows are renumbered for each node (01)
-pub total-nodes : {c : ℕ} {parts : Parts} {calls : List Call} → SequenceExact c parts calls → Unlinked (plainRun c emptyList (toldAll calls) .replies)
-    → totalIn (run (start parts) calls .replies) ≤ rowsPerJoining * run (start parts) calls .last .state .count
+pub total-nodes : {c : ℕ} {parts : Parts} {w : List ℕ} {calls : List Call} → SequenceExact c parts w calls → Unlinked (plainRun c emptyList (toldAll calls) .replies)
+    → totalIn (run (start parts w) calls .replies) ≤ rowsPerJoining * run (start parts w) calls .last .state .count
 total-nodes {c} {calls = calls} e u = omega (arith, e .total, e .count, joinings-count c (toldAll calls) u)

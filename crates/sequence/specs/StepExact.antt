@@ -19,6 +19,7 @@ use Rattle.growth_laws.specs.GrowthFrame.{GrowthFrame, StartFrame}
 use Rattle.link_laws.specs.Link.{Linked}
 use Rattle.link_laws.specs.LinkFrame.{LinkFrame}
 use Rattle.plain_list.specs.PlainList.{PlainList}
+use Rattle.plain_list.specs.PlainTally.{PlainTally}
 use Rattle.plain_list.specs.PlainStep.{PlainCall, PlainReply, PlainOutcome, replies as plainReplies}
 use Rattle.plain_list.specs.StoredList.{StoredList, storedBelow, storedBy}
 use Rattle.plain_list.specs.Stores.{Stores}
@@ -26,6 +27,7 @@ use Rattle.sequence.specs.Calls.{Call, first, leaf, root, rootOver, link
 use Rattle.sequence.specs.Run.{Fast, tableIn, Turn, replies, rowsIn}
 use Rattle.sequence.specs.Agrees.{Agrees, refusals, nodes, links, answers, alikes, pass}
 use Rattle.sequence.specs.Invariant.{Stands}
+use Rattle.sequence.specs.Tally.{tally-shown}
 
 -- the growth of table t that a call asks for; 01's new root goes over that of the tree of node 0
 pub data Asks (t : Table) : Call → Growth → Type 0 where
@@ -64,7 +66,9 @@ pub record StepExact (c : ℕ) (f : Fast) (l : StoredList) (q : Call) (o : Plain
   pub links : (k h : ℕ) → u .reply ≡ linked k h → Renumbers c l (tableIn f) (tableIn (u .after)) k h q
   -- the stored parents of the table are then the stored list's
   pub stored : Stores (parent (tableIn (u .after) .layer)) (u .after .state .count) l
-  -- a refusal leaves parts and count as they went in
+  -- the tally is then the full count over the plain list's labels, and its last entry names the commonest, the smaller on a tie
+  pub tally : PlainTally (o .after) (u .after .tally)
+  -- a refusal leaves parts, tally and count as they went in
   pub kept : (n : ℕ) → u .reply ≡ refusal n → u .after ≡ f
 
 -- the same, and the table stands beside the lists again, which were p and l before
@@ -98,11 +102,13 @@ still {c} {f} {p} {l} {total} {joinings} s q {r} {u} a z d i = record {
     renumbers = λ n k h e. absurd (d n k h e);
     links = λ k h e. absurd (i k h e);
     stored = same;
+    tally = tally-shown (s .proper) (s .shows) (s .count) (s .tally);
     kept = λ n e. refl;
   };
   stands = record {
     fits = s .fits;
     rules = s .rules;
+    tally = s .tally;
     proper = s .proper;
     shows = s .shows;
     count = s .count;

@@ -4,37 +4,40 @@ use mathlib.Core.List.{List}
 use Prim.Native.Nat.{ℕ, _<_}
 use native.Mathlib.Omega.{arith}
 use lib.IntN.{ℤ, pos}
-use lib.ListN.{length}
+use lib.ListN.{length, replicate}
 use Rattle.laws.specs.Tabulate.{tabulate}
 use Rattle.tree_laws.specs.Ancestor.{none}
 use Rattle.table.specs.declared.capacity.Fit.{Fit}
 use Rattle.table.specs.declared.capacity.Fit.the-variants.{Capacity, Misfit}
 use Rattle.table.specs.Parts.{Parts, partsOf}
-use Rattle.table.specs.Capacity.{Fits, capacityOf}
-use Rattle.table.specs.CapacityLaws.{fits-told}
+use Rattle.table.specs.Capacity.{Fits}
 use Rattle.table.specs.Table.{Table}
 use Rattle.table.specs.Rules.{Rules}
 use Rattle.table.specs.declared.refusal.Refusal.the-variants as refusals
+use Rattle.tally.specs.Layout.{tallyLength}
+use Rattle.tally.specs.Fit.{capacityWith}
+use Rattle.tally.specs.FitLaws.{with-told}
 use Rattle.set_up.specs.Outcome.{empty, refused}
-use Rattle.set_up.specs.Blank.{blankField, blank, setUp, partsAfter}
+use Rattle.set_up.specs.Blank.{blankField, blank, setUp, partsAfter, tallyAfter}
 
--- the parts do not fit: nothing is changed
-pub set-up-misfit : (t : Parts) (f : Fit) → f ≡ capacityOf t → f ≡ Misfit → (refused refusals.Misfit ≡ setUp t) × (t ≡ partsAfter t)
-unfolding setUp partsAfter
-set-up-misfit t f e m = (rw (← e, m), rw (← e, m))
+-- the parts or the tally do not fit: nothing is changed
+pub set-up-misfit : (t : Parts) (w : List ℕ) (f : Fit) → f ≡ capacityWith t w → f ≡ Misfit
+    → (refused refusals.Misfit ≡ setUp t w) × ((t ≡ partsAfter t w) × (w ≡ tallyAfter t w))
+unfolding setUp partsAfter tallyAfter
+set-up-misfit t w f e m = (rw (← e, m), (rw (← e, m), rw (← e, m)))
 
--- they fit: each part is blank
-pub set-up-fits : (t : Parts) (c : ℕ) (f : Fit) {fields numbers : List ℕ} {levels : List ℤ} {ancestors : List ℕ} → f ≡ capacityOf t → f ≡ Capacity c
+-- they fit: each part is blank, and the tally
+pub set-up-fits : (t : Parts) (w : List ℕ) (c : ℕ) (f : Fit) {fields numbers : List ℕ} {levels : List ℤ} {ancestors w′ : List ℕ} → f ≡ capacityWith t w → f ≡ Capacity c
     → fields ≡ tabulate blankField (length (t .fields)) → numbers ≡ tabulate (λ _. 0) (length (t .numbers))
-    → levels ≡ tabulate (λ _. pos 0) (length (t .levels)) → ancestors ≡ tabulate (λ _. none) (length (t .ancestors))
-    → (empty 0 ≡ setUp t) × (partsOf fields numbers levels ancestors ≡ partsAfter t)
-unfolding setUp partsAfter blank
-set-up-fits t c f e m a b l d = (rw (← e, m), rw (← e, m, a, b, l, d))
+    → levels ≡ tabulate (λ _. pos 0) (length (t .levels)) → ancestors ≡ tabulate (λ _. none) (length (t .ancestors)) → w′ ≡ replicate (length w) 0
+    → (empty 0 ≡ setUp t w) × ((partsOf fields numbers levels ancestors ≡ partsAfter t w) × (w′ ≡ tallyAfter t w))
+unfolding setUp partsAfter tallyAfter blank
+set-up-fits t w c f e m a b l d k = (rw (← e, m), (rw (← e, m, a, b, l, d), rw (← e, m, k)))
 
--- parts that fit are never refused
-pub set-up-served : (t : Parts) (c : ℕ) → Fits c t → setUp t ≡ empty 0
+-- parts and a tally that fit are never refused
+pub set-up-served : (t : Parts) (w : List ℕ) (c : ℕ) → Fits c t → length w ≡ tallyLength → setUp t w ≡ empty 0
 unfolding setUp
-set-up-served t c f = rw (fits-told f)
+set-up-served t w c f l = rw (with-told t w f l)
 
 -- an empty table passes inspection
 pub empty-rules : (capacity : ℕ) (t : Table) → t .layer .count ≡ 0 → Rules capacity t

@@ -6,13 +6,15 @@ use table::capacity::Fit;
 use table::layout::ROOT;
 use table::refusal::Refusal;
 use table::state::State;
+use tally::count::clear;
+use tally::fit::capacity_with;
 ghost use mathlib.Core.Path.{_≡_};
 ghost use lib.ListN.{length};
 ghost use lib.IntN.{pos};
 ghost use Rattle.laws.specs.Tabulate.{tabulate};
 ghost use Rattle.table.specs.Parts.{partsOf};
 ghost use Rattle.set_up.specs.Outcome.{outcomeOf};
-ghost use Rattle.set_up.specs.Blank.{blankField, setUp, partsAfter};
+ghost use Rattle.set_up.specs.Blank.{blankField, setUp, partsAfter, tallyAfter};
 
 pub enum Made {
     Empty(State),
@@ -73,23 +75,26 @@ fn clear_ancestors(ancestors: &mut [u16])
     }
 }
 
-// Count 0, roots and links none, other numbers 0; refused only where the parts do not fit one capacity.
+// Count 0, roots and links none, other numbers 0; refused only where the parts and the tally do not fit one capacity.
 pub fn set_up(
     fields: &mut [u16],
     numbers: &mut [u64],
     levels: &mut [i32],
     ancestors: &mut [u16],
+    tally: &mut [u16],
 ) -> Made
-    ensures outcome { λ r. ⌜ outcomeOf r ≡ setUp (partsOf (now (fields .entry)) (now (numbers .entry)) (now (levels .entry)) (now (ancestors .entry))) ⌝ }
-    ensures after { λ _. ⌜ partsOf (now (fields .exit)) (now (numbers .exit)) (now (levels .exit)) (now (ancestors .exit)) ≡ partsAfter (partsOf (now (fields .entry)) (now (numbers .entry)) (now (levels .entry)) (now (ancestors .entry))) ⌝ }
+    ensures outcome { λ r. ⌜ outcomeOf r ≡ setUp (partsOf (now (fields .entry)) (now (numbers .entry)) (now (levels .entry)) (now (ancestors .entry))) (now (tally .entry)) ⌝ }
+    ensures after { λ _. ⌜ partsOf (now (fields .exit)) (now (numbers .exit)) (now (levels .exit)) (now (ancestors .exit)) ≡ partsAfter (partsOf (now (fields .entry)) (now (numbers .entry)) (now (levels .entry)) (now (ancestors .entry))) (now (tally .entry)) ⌝ }
+    ensures counts { λ _. ⌜ now (tally .exit) ≡ tallyAfter (partsOf (now (fields .entry)) (now (numbers .entry)) (now (levels .entry)) (now (ancestors .entry))) (now (tally .entry)) ⌝ }
 {
-    match table::capacity::capacity(fields, numbers, levels, ancestors) {
+    match capacity_with(fields, numbers, levels, ancestors, tally) {
         Fit::Misfit => Made::Refused(Refusal::Misfit),
         Fit::Capacity(_) => {
             clear_fields(fields);
             clear_numbers(numbers);
             clear_levels(levels);
             clear_ancestors(ancestors);
+            clear(tally);
             Made::Empty(State { count: 0 })
         }
     }

@@ -5,6 +5,7 @@ use lib.IntN.{ℤ, pos, negsuc}
 use lib.ListN.{replicate, take}
 use Rattle.layer.specs.Layout.{fieldStride, numberStride, entryStride}
 use Rattle.table.specs.Parts.{Parts, partsOf}
+use Rattle.tally.specs.Layout.{tallyLength}
 use Rattle.layer.specs.Layer.{start}
 use Rattle.layer.specs.Spans.{p, q, end}
 use Rattle.sequence.specs.Calls.{Call, leaf, root, question, Reply, refusal, node, answered}
@@ -18,6 +19,9 @@ abbrev pub lent : Parts
 lent =
     partsOf (replicate (capacity * fieldStride) 0) (replicate (capacity * numberStride) 0) (replicate capacity (pos 0))
     (replicate (capacity * entryStride) 0)
+
+abbrev pub lentTally : List ℕ
+lentTally = replicate tallyLength 0
 
 abbrev pub scratch : List ℕ
 scratch = replicate capacity 0
@@ -65,7 +69,7 @@ seenIn ns r =
 
 -- what the calls give, by the definitions that the contracts of the code name
 abbrev pub seen : Case → Seen
-seen c = seenIn (c .asked) (run (blankTable lent) (c .calls))
+seen c = seenIn (c .asked) (run (blankTable lent lentTally) (c .calls))
 
 -- ---- the table
 

@@ -9,7 +9,9 @@ use Rattle.table.specs.Capacity.{fits, capacityOf}
 use Rattle.layer.specs.Sound.{isSound}
 use Rattle.table.specs.State.{isStanding}
 use Rattle.laws.specs.Tabulate.{tabulate}
-use Rattle.set_up.specs.Blank.{blank, partsAfter}
+use Rattle.tally.specs.Fit.{capacityWith}
+use Rattle.tally.specs.Count.{hasRoom, withMost}
+use Rattle.set_up.specs.Blank.{blank, partsAfter, tallyAfter}
 use Rattle.renumber.specs.Count.{oneMore}
 use Rattle.renumber.specs.Place.{turn, arrival}
 use Rattle.renumber.specs.SizeWalk.{sizeEntered, heavyKept, sizeLeft, offeredTo, sizeTurn, sizeWalk}
@@ -41,7 +43,7 @@ use Rattle.growth_store.specs.Store.{marked, planStored}
 use Rattle.growth_plan.specs.Level.{levelFrom}
 use Rattle.growth_plan.specs.PlannedRow.{plannedRow}
 use Rattle.growth_plan.specs.Plan.{leafWithin, leafPlan, rootOver, rootWithin, rootPlan}
-use Rattle.growth.specs.Growth.{served, started as treeStarted, grownBy, addLeaf, addRoot}
+use Rattle.growth.specs.Growth.{served, started as treeStarted, grownAt, grownBy, addLeaf, addRoot}
 use Rattle.growth_store.specs.Start.{startedFields}
 use Rattle.ancestry.specs.Reading.{covers}
 use Rattle.ancestry.specs.CompressedStep.{arrive, climb, atEntry, pastEntry, pastReach, pastSpan, sideFrom}
@@ -59,12 +61,12 @@ unfolding fourth
     isApex pathRow higher branchAt
     capped power rankTo rankOf
     fits capacityOf isSound isStanding
-    tabulate blank partsAfter
+    tabulate blank partsAfter tallyAfter capacityWith hasRoom withMost
     oneMore turn arrival sizeEntered heavyKept sizeLeft offeredTo sizeTurn sizeWalk lightOrLast siblingOrUp heavyLast placedRow started rowNumbered
     isOnPath upperOf sizeOf numberedDown numberedTo numberWalk entriesFrom aboveOf withEntries renumbered
     isRow levelFrom outgrownAt topFrom raisedAt raised isReadable entered leftRow checkTurn checkWalk areLinks copiesLinks firstOf firstAfter nextAfter parentAfter newLinks
     newValues linked attached upperUnder upperFor oldHead headOf isFirst isSeated isWhole seatAt seatOf joinedAt plannedRow leafWithin leafPlan rootOver rootWithin
-    rootPlan loneFields loneNumbers loneEntries marked planStored served startedFields treeStarted grownBy addLeaf addRoot
+    rootPlan loneFields loneNumbers loneEntries marked planStored served startedFields treeStarted grownAt grownBy addLeaf addRoot
     soughtIn covers arrive climb atEntry pastEntry pastReach pastSpan sideFrom isOnRow forked meeting branchOf join between storedFrom
     isNode isMinus lowerX lowerY isRead lowered plainFrom plainAnswer isServed answerServed asked question
     step

@@ -71,12 +71,12 @@ stepOf log scratch s = stepBy scratch s (fieldAt log (s .place))
 
 -- ---- what the code has of it
 
-abbrev pub sessionOf : Parts → Reading → Session
-sessionOf t r = record { place = r .place; ordinal = r .ordinal; total = r .total; fast = fastOf t (r .state); on = r .on }
+abbrev pub sessionOf : Parts → List ℕ → Reading → Session
+sessionOf t w r = record { place = r .place; ordinal = r .ordinal; total = r .total; fast = fastOf t w (r .state); on = r .on }
 
 -- the bytes of a text
 abbrev pub written : Text → List ℕ
 written t = take (t .len) (t .bytes)
 
-abbrev pub turnOf : Parts → Turn → Step
-turnOf t r = record { text = written (r .text); after = sessionOf t (r .reading) }
+abbrev pub turnOf : Parts → List ℕ → Turn → Step
+turnOf t w r = record { text = written (r .text); after = sessionOf t w (r .reading) }

@@ -32,17 +32,17 @@ unfolding textOf
 text-holds text line h =
     record { most = h .1; bytes = rw (h .0) (omega (arith, length-append line (replicate (96 - length line) 0))) }
 
-module _ (t : Parts) (text : Text) (r : Reading) (next : ℕ) where
+module _ (t : Parts) (w : List ℕ) (text : Text) (r : Reading) (next : ℕ) where
   pub served-step : (served : Served)
       → text ≡ textOf (lineOf (r .ordinal) (served .shown .letter) (take (served .shown .count) (served .shown .values)))
-      → turnOf t (record { text = text; reading = record { place = next; ordinal = r .ordinal + 1; total = r .total + served .rows; state = served .state; on = true } })
-      ≡ reported (r .ordinal) (r .total) next (reportOf t served)
+      → turnOf t w (record { text = text; reading = record { place = next; ordinal = r .ordinal + 1; total = r .total + served .rows; state = served .state; on = true } })
+      ≡ reported (r .ordinal) (r .total) next (reportOf t w served)
   served-step served e = rw (written-text text _ e)
 
   pub refused-step : (n : ℕ) (shown : Shown) → printedOf shown ≡ printedRefusal n
       → text ≡ textOf (lineOf (r .ordinal) (shown .letter) (take (shown .count) (shown .values)))
-      → turnOf t (record { text = text; reading = record { place = next; ordinal = r .ordinal + 1; total = r .total; state = r .state; on = not (eqb n 8) } })
-      ≡ refusedField (sessionOf t r) n next
+      → turnOf t w (record { text = text; reading = record { place = next; ordinal = r .ordinal + 1; total = r .total; state = r .state; on = not (eqb n 8) } })
+      ≡ refusedField (sessionOf t w r) n next
   refused-step n shown p e = rw (written-text text _ e ∙ ap (printedLine (r .ordinal)) p)
 
 module _ (log scratch : List ℕ) (s : Session) (f : Field) (read : outcomeOf f ≡ fieldAt log (s .place)) where

@@ -8,6 +8,7 @@ use Rattle.laws.specs.Test.{pick}
 use Rattle.lines.specs.Line.{headerLine, endLine}
 use Rattle.layer.specs.Layout.{fieldStride, numberStride, entryStride}
 use Rattle.table.specs.Parts.{Parts, partsOf}
+use Rattle.tally.specs.Layout.{tallyLength}
 use Rattle.sequence.specs.Run.{start}
 use Rattle.transcript.specs.Session.{Session, stepOf}
 
@@ -32,19 +33,22 @@ readFrom (suc n) log scratch s = pick (s .on) (before (stepOf log scratch s .tex
 unfoldable pub readLog : List ℕ → List ℕ → Session → Reached
 readLog log scratch s = readFrom (suc (length log)) log scratch s
 
--- the program's capacity, and the parts that it lends
+-- the program's capacity, and the parts and the tally that it lends
 abbrev pub rows : ℕ
 rows = 128
 
 abbrev pub lent : Parts
 lent = partsOf (replicate (rows * fieldStride) 0) (replicate (rows * numberStride) 0) (replicate rows (pos 0)) (replicate (rows * entryStride) 0)
 
+abbrev pub lentTally : List ℕ
+lentTally = replicate tallyLength 0
+
 abbrev pub scratch : List ℕ
 scratch = replicate rows 0
 
 -- before the first field, which has ordinal 1
 abbrev pub opening : Session
-opening = record { place = 0; ordinal = 1; total = 0; fast = start lent; on = true }
+opening = record { place = 0; ordinal = 1; total = 0; fast = start lent lentTally; on = true }
 
 -- the header, the lines of the fields, and the last line with the count and the total renumbered
 abbrev pub framed : Reached → List ℕ

@@ -111,26 +111,26 @@ module _ (log scratch : List ℕ) where
             }
 
   -- while the reading goes on there is room for one field more
-  pub come-small : {s₀ : Session} {out₀ : List ℕ} {filled₀ : ℕ} {t : Parts} (r : Reading) (out : List ℕ) (filled : ℕ) → r .on ≡ true → length log ≤ logLimit
-      → Come s₀ out₀ filled₀ (sessionOf t r) out filled → Small r
+  pub come-small : {s₀ : Session} {out₀ : List ℕ} {filled₀ : ℕ} {t : Parts} {w : List ℕ} (r : Reading) (out : List ℕ) (filled : ℕ) → r .on ≡ true → length log ≤ logLimit
+      → Come s₀ out₀ filled₀ (sessionOf t w r) out filled → Small r
   come-small r out filled on h come =
       let i = come .within on in
       let p = come .place in
       record { ordinal = omega (arith, i .ordinal); total = omega (arith, i .total) }
 
   -- one turn of the loop, as the code takes it
-  module _ (t u : Parts) (r : Reading) (turn : Turn) (on : r .on ≡ true) (step : turnOf u turn ≡ stepOf log scratch (sessionOf t r)) where
+  module _ (t u : Parts) (w w′ : List ℕ) (r : Reading) (turn : Turn) (on : r .on ≡ true) (step : turnOf u w′ turn ≡ stepOf log scratch (sessionOf t w r)) where
     pub come-turn : {s₀ : Session} {out₀ : List ℕ} {filled₀ : ℕ} (out : List ℕ) (filled : ℕ) (after : List ℕ) (filled' : ℕ)
-        → Come s₀ out₀ filled₀ (sessionOf t r) out filled → Grows r turn
+        → Come s₀ out₀ filled₀ (sessionOf t w r) out filled → Grows r turn
         → (take filled' after ≡ take filled out ++ written (turn .text)) × (filled' ≡ filled + turn .text .len) → length after ≡ length out
-        → Come s₀ out₀ filled₀ (sessionOf u (turn .reading)) after filled'
+        → Come s₀ out₀ filled₀ (sessionOf u w′ (turn .reading)) after filled'
     come-turn {s₀} {out₀} {filled₀} out filled after filled' come g put same =
         let m = g .text .most in
-        come-more s₀ out₀ filled₀ (sessionOf t r) out filled on come (turnOf u turn) after filled'
+        come-more s₀ out₀ filled₀ (sessionOf t w r) out filled on come (turnOf u w′ turn) after filled'
         (record { step = step; text = put .0; same = same; bytes = omega (arith, put .1); ordinal = g .ordinal; total = g .total })
 
-    pub turn-falls : r .place ≤ length log → left log (sessionOf u (turn .reading)) < left log (sessionOf t r)
+    pub turn-falls : r .place ≤ length log → left log (sessionOf u w′ (turn .reading)) < left log (sessionOf t w r)
     turn-falls h =
-        left-falls log (sessionOf t r) (sessionOf u (turn .reading)) on
-        (let e : sessionOf u (turn .reading) ≡ stepOf log scratch (sessionOf t r) .after = ap (λ (x : Step). x .after) step in
-        rw e (step-moves log scratch (sessionOf t r) h))
+        left-falls log (sessionOf t w r) (sessionOf u w′ (turn .reading)) on
+        (let e : sessionOf u w′ (turn .reading) ≡ stepOf log scratch (sessionOf t w r) .after = ap (λ (x : Step). x .after) step in
+        rw e (step-moves log scratch (sessionOf t w r) h))

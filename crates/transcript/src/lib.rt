@@ -10,6 +10,7 @@ use lines::end_line;
 use lines::header;
 use set_up::Made;
 use set_up::set_up;
+use tally::layout::ENTRIES as COUNTS;
 use turn::Reading;
 use turn::take_turn;
 ghost use mathlib.Core.Path.{_≡_};
@@ -39,19 +40,29 @@ fn read_fields(
     numbers: &mut [u64],
     levels: &mut [i32],
     ancestors: &mut [u16],
+    tally: &mut [u16],
     scratch: &[u16],
     first: Reading,
     header: usize,
 ) -> Page
     requires { ⌜ Opens first header (length (now log)) (length (now out)) ⌝ }
-    ensures text { λ r. ⌜ take (r .filled) (now (out .exit)) ≡ take header (now (out .entry)) ++ readLog (now (log .entry)) (now (scratch .entry)) (sessionOf (partsOf (now (fields .entry)) (now (numbers .entry)) (now (levels .entry)) (now (ancestors .entry))) first) .text ⌝ }
-    ensures last { λ r. ⌜ sessionOf (partsOf (now (fields .exit)) (now (numbers .exit)) (now (levels .exit)) (now (ancestors .exit))) (r .reading) ≡ readLog (now (log .entry)) (now (scratch .entry)) (sessionOf (partsOf (now (fields .entry)) (now (numbers .entry)) (now (levels .entry)) (now (ancestors .entry))) first) .last ⌝ }
+    ensures text { λ r. ⌜ take (r .filled) (now (out .exit)) ≡ take header (now (out .entry)) ++ readLog (now (log .entry)) (now (scratch .entry)) (sessionOf (partsOf (now (fields .entry)) (now (numbers .entry)) (now (levels .entry)) (now (ancestors .entry))) (now (tally .entry)) first) .text ⌝ }
+    ensures last { λ r. ⌜ sessionOf (partsOf (now (fields .exit)) (now (numbers .exit)) (now (levels .exit)) (now (ancestors .exit))) (now (tally .exit)) (r .reading) ≡ readLog (now (log .entry)) (now (scratch .entry)) (sessionOf (partsOf (now (fields .entry)) (now (numbers .entry)) (now (levels .entry)) (now (ancestors .entry))) (now (tally .entry)) first) .last ⌝ }
     ensures room { λ r. ⌜ r .filled ≤ 32 * length (now (log .entry)) + 192 ⌝ }
 {
     let mut reading = first;
     let mut filled = header;
     while reading.on {
-        let t = take_turn(log, fields, numbers, levels, ancestors, scratch, reading);
+        let t = take_turn(
+            log,
+            fields,
+            numbers,
+            levels,
+            ancestors,
+            tally,
+            scratch,
+            reading,
+        );
         let text = t.text;
         filled = put_text(out, filled, text);
         reading = t.reading;
@@ -72,8 +83,15 @@ pub fn transcribe(log: &[u8], out: &mut [u8]) -> usize
     let mut numbers = [0u64; ROWS * NUMBERS];
     let mut levels = [0i32; ROWS];
     let mut ancestors = [0u16; ROWS * ENTRIES];
+    let mut tally = [0u16; COUNTS];
     let scratch = [0u16; ROWS];
-    let Made::Empty(state) = set_up(&mut fields, &mut numbers, &mut levels, &mut ancestors) else {
+    let Made::Empty(state) = set_up(
+        &mut fields,
+        &mut numbers,
+        &mut levels,
+        &mut ancestors,
+        &mut tally,
+    ) else {
         return 0;
     };
     let first = Reading {
@@ -91,6 +109,7 @@ pub fn transcribe(log: &[u8], out: &mut [u8]) -> usize
         &mut numbers,
         &mut levels,
         &mut ancestors,
+        &mut tally,
         &scratch,
         first,
         filled,

@@ -11,7 +11,8 @@ use report::serve::serve_question;
 use report::serve::serve_root;
 use table::state::State;
 ghost use mathlib.Core.Path.{_≡_};
-ghost use Prim.Native.Nat.{_+_, _≤_};
+ghost use mathlib.Core.List.{List};
+ghost use Prim.Native.Nat.{ℕ, _+_, _≤_};
 ghost use Rattle.table.specs.Parts.{Parts, partsOf};
 ghost use Rattle.report.specs.Report.{reportOf};
 ghost use Rattle.transcript.specs.Bounds.{Grows, Small};
@@ -34,7 +35,7 @@ pub struct Turn {
 
 // A field that prints no line, or the log's end.
 fn silent_turn(reading: Reading, place: usize, ordinal: u32, on: bool) -> Turn
-    ensures step { λ r. ⌜ ((t : Parts) → turnOf t r ≡ silent (sessionOf t reading) place ordinal on) ⌝ }
+    ensures step { λ r. ⌜ ((t : Parts) (w : List ℕ) → turnOf t w r ≡ silent (sessionOf t w reading) place ordinal on) ⌝ }
     ensures grows { λ r. ⌜ (ordinal ≤ reading .ordinal + 1 → Grows reading r) ⌝ }
 {
     let state = reading.state;
@@ -56,7 +57,7 @@ fn silent_turn(reading: Reading, place: usize, ordinal: u32, on: bool) -> Turn
 // A refusal of the reader.
 fn refused_turn(reading: Reading, n: u16, next: usize) -> Turn
     requires { ⌜ Small reading ⌝ }
-    ensures step { λ r. ⌜ ((t : Parts) → turnOf t r ≡ refusedField (sessionOf t reading) n next) ⌝ }
+    ensures step { λ r. ⌜ ((t : Parts) (w : List ℕ) → turnOf t w r ≡ refusedField (sessionOf t w reading) n next) ⌝ }
     ensures grows { λ r. ⌜ Grows reading r ⌝ }
 {
     let state = reading.state;
@@ -77,7 +78,7 @@ fn refused_turn(reading: Reading, n: u16, next: usize) -> Turn
 // A call that was answered.
 fn served_turn(reading: Reading, served: Served, next: usize) -> Turn
     requires { ⌜ Small reading ⌝ }
-    ensures step { λ r. ⌜ ((t : Parts) → turnOf t r ≡ reported (reading .ordinal) (reading .total) next (reportOf t served)) ⌝ }
+    ensures step { λ r. ⌜ ((t : Parts) (w : List ℕ) → turnOf t w r ≡ reported (reading .ordinal) (reading .total) next (reportOf t w served)) ⌝ }
     ensures grows { λ r. ⌜ Grows reading r ⌝ }
 {
     let state = served.state;
@@ -102,11 +103,12 @@ pub fn take_turn(
     numbers: &mut [u64],
     levels: &mut [i32],
     ancestors: &mut [u16],
+    tally: &mut [u16],
     scratch: &[u16],
     reading: Reading,
 ) -> Turn
     requires { ⌜ Small reading ⌝ }
-    ensures step { λ r. ⌜ turnOf (partsOf (now (fields .exit)) (now (numbers .exit)) (now (levels .exit)) (now (ancestors .exit))) r ≡ stepOf (now (log .entry)) (now (scratch .entry)) (sessionOf (partsOf (now (fields .entry)) (now (numbers .entry)) (now (levels .entry)) (now (ancestors .entry))) reading) ⌝ }
+    ensures step { λ r. ⌜ turnOf (partsOf (now (fields .exit)) (now (numbers .exit)) (now (levels .exit)) (now (ancestors .exit))) (now (tally .exit)) r ≡ stepOf (now (log .entry)) (now (scratch .entry)) (sessionOf (partsOf (now (fields .entry)) (now (numbers .entry)) (now (levels .entry)) (now (ancestors .entry))) (now (tally .entry)) reading) ⌝ }
     ensures grows { λ r. ⌜ Grows reading r ⌝ }
 {
     let state = reading.state;
@@ -128,6 +130,7 @@ pub fn take_turn(
                 numbers,
                 levels,
                 ancestors,
+                tally,
                 scratch,
                 state,
                 parent,
@@ -136,7 +139,7 @@ pub fn take_turn(
             served_turn(reading, served, next)
         }
         Field::Root(next) => {
-            let served = serve_root(fields, numbers, levels, ancestors, scratch, state);
+            let served = serve_root(fields, numbers, levels, ancestors, tally, scratch, state);
             served_turn(reading, served, next)
         }
         Field::Question { x, y, next } => {

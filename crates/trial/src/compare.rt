@@ -1,4 +1,6 @@
 // Each answer of the engine against the naive one.
+use crate::checks::Checks;
+use crate::checks::noted;
 use crate::naive::alike;
 use crate::naive::branch;
 use crate::naive::depth;
@@ -6,8 +8,6 @@ use crate::naive::minus;
 use crate::naive::nca;
 use crate::naive::of;
 use crate::naive::root_of;
-use crate::tally::Tally;
-use crate::tally::noted;
 use alike::Compared;
 use alike::same_labels;
 use query::Answer;
@@ -109,13 +109,13 @@ fn ask_pair(
     parents: &[u16],
     labels: &[u16],
     state: State,
-    tally: Tally,
+    checks: Checks,
     x: u16,
     y: u16,
-) -> Tally {
+) -> Checks {
     let answered = characteristic_ancestors(fields, numbers, levels, ancestors, state, x, y);
     let asked = noted(
-        tally,
+        checks,
         agrees_on_query(parents, labels, state.count, x, y, answered),
         b'Q',
         x,
@@ -142,10 +142,10 @@ fn ask_row(
     parents: &[u16],
     labels: &[u16],
     state: State,
-    tally: Tally,
+    checks: Checks,
     x: u16,
-) -> Tally {
-    let mut t = tally;
+) -> Checks {
+    let mut t = checks;
     let mut y: u16 = 0;
     while y < ASKED {
         t = ask_pair(
@@ -174,9 +174,9 @@ pub fn ask_all(
     parents: &[u16],
     labels: &[u16],
     state: State,
-    tally: Tally,
-) -> Tally {
-    let mut t = tally;
+    checks: Checks,
+) -> Checks {
+    let mut t = checks;
     let mut x: u16 = 0;
     while x < ASKED {
         t = ask_row(

@@ -1,28 +1,19 @@
-// Growth of the engine's table and of the plain list side by side, and links, with an inspection after each.
+// The engine's table and the plain list side by side, call by call, with an inspection and a full count of labels after each.
+use crate::call::Call;
+use crate::call::after;
+use crate::call::call_of;
+use crate::call::first_named;
+use crate::call::letter_of;
+use crate::call::refusal_of;
+use crate::call::second_named;
+use crate::call::seed_after;
+use crate::checks::Checks;
+use crate::checks::noted;
+use crate::count::is_tallied;
 use crate::head::heads_growth;
 use crate::head::heads_link;
-use crate::random::below;
-use crate::random::next;
-use crate::shape::Kind;
-use crate::shape::is_link;
-use crate::shape::kind_of;
-use crate::shape::label;
-use crate::shape::named;
-use crate::shape::parent;
-use crate::tally::Tally;
-use crate::tally::noted;
 use crate::tree::Tree;
-use crate::tree::full_refusal;
-use crate::tree::leaf_refusal;
-use crate::tree::link_refusal;
 use crate::tree::members_in;
-use crate::tree::over_refusal;
-use crate::tree::root_in;
-use crate::tree::with_first;
-use crate::tree::with_leaf;
-use crate::tree::with_link;
-use crate::tree::with_over;
-use crate::tree::with_root;
 use growth::Grown;
 use growth::Growth;
 use growth::add_first;
@@ -31,6 +22,7 @@ use growth::add_root;
 use growth::add_root_over;
 use inspect::Inspected;
 use inspect::inspect;
+use link::Joined;
 use link::Linked;
 use link::link;
 use table::refusal::number_of;
@@ -40,10 +32,17 @@ use table::state::State;
 pub struct Run {
     pub state: State,
     pub tree: Tree,
-    pub tally: Tally,
+    pub checks: Checks,
     pub total: u64,
     pub joinings: u64,
     pub seed: u64,
+}
+
+// What the engine answered to a call.
+enum Found {
+    Refused(u16),
+    Growth(Growth),
+    Joined(Joined),
 }
 
 fn plus(total: u64, more: u64) -> u64 {
@@ -63,11 +62,22 @@ fn is_paid(total: u64, joinings: u64) -> bool {
     total <= 120 * joinings
 }
 
+// One comparison more, of this call.
+fn noted_call(checks: Checks, equal: bool, call: Call) -> Checks {
+    noted(
+        checks,
+        equal,
+        letter_of(call),
+        first_named(call),
+        second_named(call),
+    )
+}
+
 // The run after a call that was refused.
-fn refused(run: Run, equal: bool, letter: u8, x: u16, y: u16) -> Run {
-    let tally = run.tally;
+fn refused(run: Run, equal: bool, call: Call) -> Run {
+    let checks = run.checks;
     let mut r = run;
-    r.tally = noted(tally, equal, letter, x, y);
+    r.checks = noted_call(checks, equal, call);
     r
 }
 
@@ -79,17 +89,15 @@ fn served(
     rows: u64,
     joined: u64,
     equal: bool,
-    letter: u8,
-    x: u16,
-    y: u16,
+    call: Call,
 ) -> Run {
-    let tally = run.tally;
+    let checks = run.checks;
     let total = plus(run.total, rows);
     let joinings = plus(run.joinings, joined);
     Run {
         state: state,
         tree: after,
-        tally: noted(tally, equal && is_paid(total, joinings), letter, x, y),
+        checks: noted_call(checks, equal && is_paid(total, joinings), call),
         total: total,
         joinings: joinings,
         seed: run.seed,
@@ -108,240 +116,119 @@ fn is_growth(before: Tree, after: Tree, refusal: u16, found: Growth) -> bool {
     s.count == after.count
 }
 
-// The run after a growth; `refusal` is the plain list's, `after` its tree where it serves.
-fn after_growth(
-    fields: &[u16],
-    run: Run,
-    refusal: u16,
-    after: Tree,
-    found: Grown,
-    letter: u8,
-    x: u16,
-    y: u16,
-) -> Run {
-    let before = run.tree;
+// The run after a growth that was served; `refusal` is the plain list's.
+fn after_growth(fields: &[u16], run: Run, call: Call, refusal: u16, g: Growth) -> Run {
+    let tree = run.tree;
+    let state = g.state;
+    let next = after(tree, call);
+    let equal = is_growth(tree, next, refusal, g) && heads_growth(fields, g);
+    served(run, state, next, g.rows as u64, 1, equal, call)
+}
+
+// The run after a link that was served.
+fn after_link(fields: &[u16], run: Run, call: Call, refusal: u16, l: Joined) -> Run {
+    let tree = run.tree;
+    let state = run.state;
+    let joined = members_in(tree, first_named(call));
+    let equal = refusal == 0 && heads_link(fields, second_named(call), l);
+    served(
+        run,
+        state,
+        after(tree, call),
+        l.rows as u64,
+        joined,
+        equal,
+        call,
+    )
+}
+
+fn after_call(fields: &[u16], run: Run, call: Call, found: Found) -> Run {
+    let refusal = refusal_of(run.tree, call);
     match found {
-        Grown::Refused(r) => refused(run, number_of(r) == refusal, letter, x, y),
-        Grown::Node(g) => {
-            let state = g.state;
-            let equal = is_growth(before, after, refusal, g) && heads_growth(fields, g);
-            served(run, state, after, g.rows as u64, 1, equal, letter, x, y)
-        }
+        Found::Refused(n) => refused(run, n == refusal, call),
+        Found::Growth(g) => after_growth(fields, run, call, refusal, g),
+        Found::Joined(l) => after_link(fields, run, call, refusal, l),
     }
 }
 
-fn grow_first(
-    fields: &mut [u16],
-    numbers: &mut [u64],
-    levels: &mut [i32],
-    ancestors: &mut [u16],
-    scratch: &[u16],
-    run: Run,
-) -> Run {
-    let state = run.state;
-    let tree = run.tree;
-    let found = add_first(fields, numbers, levels, ancestors, scratch, state);
-    after_growth(
-        fields,
-        run,
-        full_refusal(tree),
-        with_first(tree),
-        found,
-        b'F',
-        0,
-        0,
-    )
-}
-
-fn grow_leaf(
-    fields: &mut [u16],
-    numbers: &mut [u64],
-    levels: &mut [i32],
-    ancestors: &mut [u16],
-    scratch: &[u16],
-    run: Run,
-    x: u16,
-    y: u16,
-) -> Run {
-    let state = run.state;
-    let tree = run.tree;
-    let found = add_leaf(fields, numbers, levels, ancestors, scratch, state, x, y);
-    after_growth(
-        fields,
-        run,
-        leaf_refusal(tree, x, y),
-        with_leaf(tree, x, y),
-        found,
-        b'L',
-        x,
-        y,
-    )
-}
-
-fn grow_root(
-    fields: &mut [u16],
-    numbers: &mut [u64],
-    levels: &mut [i32],
-    ancestors: &mut [u16],
-    scratch: &[u16],
-    run: Run,
-) -> Run {
-    let state = run.state;
-    let tree = run.tree;
-    let found = add_root(fields, numbers, levels, ancestors, scratch, state);
-    after_growth(
-        fields,
-        run,
-        full_refusal(tree),
-        with_root(tree),
-        found,
-        b'T',
-        0,
-        0,
-    )
-}
-
-fn grow_over(
-    fields: &mut [u16],
-    numbers: &mut [u64],
-    levels: &mut [i32],
-    ancestors: &mut [u16],
-    scratch: &[u16],
-    run: Run,
-    x: u16,
-) -> Run {
-    let state = run.state;
-    let tree = run.tree;
-    let found = add_root_over(fields, numbers, levels, ancestors, scratch, state, x);
-    after_growth(
-        fields,
-        run,
-        over_refusal(tree, x),
-        with_over(tree, x),
-        found,
-        b'O',
-        x,
-        0,
-    )
-}
-
-// The growth of one turn.
-fn grow(
-    fields: &mut [u16],
-    numbers: &mut [u64],
-    levels: &mut [i32],
-    ancestors: &mut [u16],
-    scratch: &[u16],
-    run: Run,
-    shape: u16,
-    turn: u16,
-) -> Run {
-    let tree = run.tree;
-    let first = next(run.seed);
-    let second = next(first);
-    let third = next(second);
-    let mut r = run;
-    r.seed = third;
-    let x = parent(shape, tree.count, first, second);
-    match kind_of(shape, turn, first) {
-        Kind::First => grow_first(fields, numbers, levels, ancestors, scratch, r),
-        Kind::Root => grow_root(fields, numbers, levels, ancestors, scratch, r),
-        Kind::Over => {
-            let over = named(root_in(tree, x), x, third);
-            grow_over(fields, numbers, levels, ancestors, scratch, r, over)
-        }
-        Kind::Leaf => {
-            grow_leaf(
-                fields,
-                numbers,
-                levels,
-                ancestors,
-                scratch,
-                r,
-                x,
-                label(turn, third),
-            )
-        }
-    }
-}
-
-// The run after a link; `refusal` is the plain list's, `after` its trees where it serves.
-fn after_link(
-    fields: &[u16],
-    run: Run,
-    refusal: u16,
-    after: Tree,
-    found: Linked,
-    x: u16,
-    v: u16,
-) -> Run {
-    let state = run.state;
-    let before = run.tree;
+fn of_growth(found: Grown) -> Found {
     match found {
-        Linked::Refused(r) => refused(run, number_of(r) == refusal, b'J', x, v),
-        Linked::Under(l) => {
-            let joined = members_in(before, x);
-            let equal = refusal == 0 && heads_link(fields, v, l);
-            served(run, state, after, l.rows as u64, joined, equal, b'J', x, v)
-        }
+        Grown::Node(g) => Found::Growth(g),
+        Grown::Refused(r) => Found::Refused(number_of(r)),
     }
 }
 
-fn link_under(
-    fields: &mut [u16],
-    numbers: &mut [u64],
-    levels: &mut [i32],
-    ancestors: &mut [u16],
-    scratch: &mut [u16],
-    run: Run,
-    x: u16,
-    v: u16,
-    y: u16,
-) -> Run {
-    let state = run.state;
-    let tree = run.tree;
-    let found = link(fields, numbers, levels, ancestors, scratch, state, x, v, y);
-    after_link(
-        fields,
-        run,
-        link_refusal(tree, x, v, y),
-        with_link(tree, x, v, y),
-        found,
-        x,
-        v,
-    )
+fn of_link(found: Linked) -> Found {
+    match found {
+        Linked::Under(l) => Found::Joined(l),
+        Linked::Refused(r) => Found::Refused(number_of(r)),
+    }
 }
 
-// The link of one turn.
-fn link_once(
+// The call on the engine's table.
+fn make(
     fields: &mut [u16],
     numbers: &mut [u64],
     levels: &mut [i32],
     ancestors: &mut [u16],
+    tally: &mut [u16],
     scratch: &mut [u16],
-    run: Run,
-    turn: u16,
-) -> Run {
-    let tree = run.tree;
-    let first = next(run.seed);
-    let second = next(first);
-    let third = next(second);
-    let mut r = run;
-    r.seed = third;
-    let node = below(first, tree.count);
-    let x = named(root_in(tree, node), node, third);
-    let v = below(second, tree.count);
-    link_under(
-        fields,
-        numbers,
-        levels,
-        ancestors,
-        scratch,
-        r,
-        x,
-        v,
-        label(turn, third),
-    )
+    state: State,
+    call: Call,
+) -> Found {
+    match call {
+        Call::First => of_growth(add_first(
+            fields,
+            numbers,
+            levels,
+            ancestors,
+            tally,
+            scratch,
+            state,
+        )),
+        Call::Root => of_growth(add_root(
+            fields,
+            numbers,
+            levels,
+            ancestors,
+            tally,
+            scratch,
+            state,
+        )),
+        Call::Over { x } => of_growth(add_root_over(
+            fields,
+            numbers,
+            levels,
+            ancestors,
+            tally,
+            scratch,
+            state,
+            x,
+        )),
+        Call::Leaf { x, label } => of_growth(add_leaf(
+            fields,
+            numbers,
+            levels,
+            ancestors,
+            tally,
+            scratch,
+            state,
+            x,
+            label,
+        )),
+        Call::Link { x, v, label } => of_link(link(
+            fields,
+            numbers,
+            levels,
+            ancestors,
+            tally,
+            scratch,
+            state,
+            x,
+            v,
+            label,
+        )),
+    }
 }
 
 fn passes(found: Inspected) -> bool {
@@ -356,65 +243,92 @@ fn inspected(
     numbers: &[u64],
     levels: &[i32],
     ancestors: &[u16],
+    tally: &[u16],
     scratch: &mut [u16],
     run: Run,
     turn: u16,
 ) -> Run {
-    let tally = run.tally;
-    let found = inspect(fields, numbers, levels, ancestors, scratch, run.state);
+    let checks = run.checks;
+    let tree = run.tree;
+    let found = inspect(
+        fields,
+        numbers,
+        levels,
+        ancestors,
+        tally,
+        scratch,
+        run.state,
+    );
+    let seen = noted(checks, passes(found), b'I', turn, 0);
     let mut r = run;
-    r.tally = noted(tally, passes(found), b'I', turn, 0);
+    r.checks = noted(seen, is_tallied(tally, tree), b'K', turn, 0);
     r
 }
 
-// One growth or link.
+// The call of a turn, on both sides.
 fn call_once(
     fields: &mut [u16],
     numbers: &mut [u64],
     levels: &mut [i32],
     ancestors: &mut [u16],
+    tally: &mut [u16],
     scratch: &mut [u16],
     run: Run,
-    shape: u16,
-    turn: u16,
+    call: Call,
 ) -> Run {
-    if is_link(shape, turn, run.seed) {
-        return link_once(fields, numbers, levels, ancestors, scratch, run, turn);
-    }
-    grow(
+    let found = make(
         fields,
         numbers,
         levels,
         ancestors,
+        tally,
         scratch,
-        run,
-        shape,
-        turn,
-    )
+        run.state,
+        call,
+    );
+    after_call(fields, run, call, found)
 }
 
-// One growth or link, and an inspection.
+// The run with the seed of the next turn.
+fn drawn(run: Run) -> Run {
+    let mut r = run;
+    r.seed = seed_after(run.seed);
+    r
+}
+
+// One call, an inspection, and a full count of labels.
 fn grow_once(
     fields: &mut [u16],
     numbers: &mut [u64],
     levels: &mut [i32],
     ancestors: &mut [u16],
+    tally: &mut [u16],
     scratch: &mut [u16],
     run: Run,
     shape: u16,
     turn: u16,
 ) -> Run {
+    let call = call_of(run.tree, shape, turn, run.seed);
     let called = call_once(
         fields,
         numbers,
         levels,
         ancestors,
+        tally,
         scratch,
-        run,
-        shape,
-        turn,
+        drawn(run),
+        call,
     );
-    inspected(fields, numbers, levels, ancestors, scratch, called, turn)
+    inspected(
+        fields,
+        numbers,
+        levels,
+        ancestors,
+        tally,
+        scratch,
+        called,
+        turn,
+    )
 }
 
 // More turns than nodes: the last growths are refused.
@@ -425,6 +339,7 @@ pub fn grow_all(
     numbers: &mut [u64],
     levels: &mut [i32],
     ancestors: &mut [u16],
+    tally: &mut [u16],
     scratch: &mut [u16],
     run: Run,
     shape: u16,
@@ -432,7 +347,17 @@ pub fn grow_all(
     let mut r = run;
     let mut turn: u16 = 0;
     while turn < TURNS {
-        r = grow_once(fields, numbers, levels, ancestors, scratch, r, shape, turn);
+        r = grow_once(
+            fields,
+            numbers,
+            levels,
+            ancestors,
+            tally,
+            scratch,
+            r,
+            shape,
+            turn,
+        );
         turn += 1;
     }
     r

@@ -1,6 +1,6 @@
 // Cases of 01 beside the trees: parts that do not fit, and the empty log.
-use crate::tally::Tally;
-use crate::tally::noted;
+use crate::checks::Checks;
+use crate::checks::noted;
 use growth::Grown;
 use growth::add_root;
 use log::Field;
@@ -25,22 +25,30 @@ fn refusal_of_growth(grown: Grown) -> u16 {
     }
 }
 
-// Set-up on parts for two rows, with these ancestor entries.
-fn set_up_on(ancestors: &mut [u16]) -> u16 {
+// Set-up on parts for two rows, with these ancestor entries and this tally.
+fn set_up_on(ancestors: &mut [u16], tally: &mut [u16]) -> u16 {
     let mut fields = [7u16; 24];
     let mut numbers = [7u64; 4];
     let mut levels = [7i32; 2];
-    refusal_of_set_up(set_up(&mut fields, &mut numbers, &mut levels, ancestors))
+    refusal_of_set_up(set_up(&mut fields, &mut numbers, &mut levels, ancestors, tally))
 }
 
 fn set_up_two() -> u16 {
     let mut ancestors = [7u16; 244];
-    set_up_on(&mut ancestors)
+    let mut tally = [7u16; 10001];
+    set_up_on(&mut ancestors, &mut tally)
 }
 
 fn set_up_short() -> u16 {
     let mut ancestors = [7u16; 243];
-    set_up_on(&mut ancestors)
+    let mut tally = [7u16; 10001];
+    set_up_on(&mut ancestors, &mut tally)
+}
+
+fn set_up_no_most() -> u16 {
+    let mut ancestors = [7u16; 244];
+    let mut tally = [7u16; 10000];
+    set_up_on(&mut ancestors, &mut tally)
 }
 
 // Set-up on parts for no row.
@@ -49,11 +57,13 @@ fn set_up_none() -> u16 {
     let mut numbers = [7u64; 4];
     let mut levels = [7i32; 2];
     let mut ancestors = [7u16; 244];
+    let mut tally = [7u16; 10001];
     refusal_of_set_up(set_up(
         &mut fields[..0],
         &mut numbers[..0],
         &mut levels[..0],
         &mut ancestors[..0],
+        &mut tally,
     ))
 }
 
@@ -63,7 +73,14 @@ fn root_on(scratch: &[u16]) -> u16 {
     let mut numbers = [7u64; 4];
     let mut levels = [7i32; 2];
     let mut ancestors = [7u16; 244];
-    match set_up(&mut fields, &mut numbers, &mut levels, &mut ancestors) {
+    let mut tally = [7u16; 10001];
+    match set_up(
+        &mut fields,
+        &mut numbers,
+        &mut levels,
+        &mut ancestors,
+        &mut tally,
+    ) {
         Made::Refused(r) => number_of(r),
         Made::Empty(state) => {
             refusal_of_growth(add_root(
@@ -71,6 +88,7 @@ fn root_on(scratch: &[u16]) -> u16 {
                 &mut numbers,
                 &mut levels,
                 &mut ancestors,
+                &mut tally,
                 scratch,
                 state,
             ))
@@ -100,11 +118,12 @@ fn ends_at_once() -> bool {
     is_end(read_at(&log[..0], 0))
 }
 
-pub fn limits(tally: Tally) -> Tally {
-    let a = noted(tally, set_up_two() == 0, b'S', 244, 0);
+pub fn limits(checks: Checks) -> Checks {
+    let a = noted(checks, set_up_two() == 0, b'S', 244, 0);
     let b = noted(a, set_up_short() == 3, b'S', 243, 0);
     let c = noted(b, set_up_none() == 3, b'S', 0, 0);
-    let d = noted(c, root_two() == 0, b'T', 2, 0);
-    let e = noted(d, root_short() == 3, b'T', 1, 0);
-    noted(e, ends_at_once(), b'E', 0, 0)
+    let d = noted(c, set_up_no_most() == 3, b'S', 244, 10000);
+    let e = noted(d, root_two() == 0, b'T', 2, 0);
+    let f = noted(e, root_short() == 3, b'T', 1, 0);
+    noted(f, ends_at_once(), b'E', 0, 0)
 }

@@ -1,15 +1,15 @@
 // The engine against a naive parent walk (01, "Guarantees in writing", d): trees of several shapes, and several trees, at capacity 128, every pair asked,
-// inspection after each growth, and 01's other cases that need no large table.
+// inspection and a full count of labels after each growth, and 01's other cases that need no large table.
+use crate::checks::Checks;
+use crate::checks::noted;
 use crate::compare::ask_all;
 use crate::grow::Run;
 use crate::grow::grow_all;
 use crate::limits::limits;
+use crate::report::write_checks;
 use crate::report::write_name;
-use crate::report::write_tally;
 use crate::report::write_tree;
 use crate::shape::SHAPES;
-use crate::tally::Tally;
-use crate::tally::noted;
 use layer::layout::ENTRIES;
 use layer::layout::FIELDS;
 use layer::layout::NUMBERS;
@@ -17,7 +17,10 @@ use set_up::Made;
 use set_up::set_up;
 use table::state::State;
 
+mod call;
+mod checks;
 mod compare;
+mod count;
 mod grow;
 mod head;
 mod limits;
@@ -25,7 +28,6 @@ mod naive;
 mod random;
 mod report;
 mod shape;
-mod tally;
 mod tree;
 
 // The rows of a table that is tried.
@@ -37,7 +39,7 @@ fn started(made: Made, seed: u64) -> Run {
         Made::Empty(state) => Run {
             state: state,
             tree: tree::empty(),
-            tally: tally::none(),
+            checks: checks::none(),
             total: 0,
             joinings: 0,
             seed: seed,
@@ -45,7 +47,7 @@ fn started(made: Made, seed: u64) -> Run {
         Made::Refused(_) => Run {
             state: State { count: 0 },
             tree: tree::empty(),
-            tally: noted(tally::none(), false, b'S', 0, 0),
+            checks: noted(checks::none(), false, b'S', 0, 0),
             total: 0,
             joinings: 0,
             seed: seed,
@@ -61,8 +63,8 @@ fn ask_arrays(
     parents: [u16; 128],
     labels: [u16; 128],
     state: State,
-    tally: Tally,
-) -> Tally {
+    checks: Checks,
+) -> Checks {
     ask_all(
         fields,
         numbers,
@@ -71,7 +73,7 @@ fn ask_arrays(
         &parents,
         &labels,
         state,
-        tally,
+        checks,
     )
 }
 
@@ -81,9 +83,9 @@ fn asked(fields: &[u16], numbers: &[u64], levels: &[i32], ancestors: &[u16], run
     let parents = t.parents;
     let labels = t.labels;
     let state = run.state;
-    let tally = run.tally;
+    let checks = run.checks;
     let mut r = run;
-    r.tally = ask_arrays(
+    r.checks = ask_arrays(
         fields,
         numbers,
         levels,
@@ -91,7 +93,7 @@ fn asked(fields: &[u16], numbers: &[u64], levels: &[i32], ancestors: &[u16], run
         parents,
         labels,
         state,
-        tally,
+        checks,
     );
     r
 }
@@ -102,13 +104,21 @@ fn try_shape(shape: u16) -> Run {
     let mut numbers = [7u64; ROWS * NUMBERS];
     let mut levels = [7i32; ROWS];
     let mut ancestors = [7u16; ROWS * ENTRIES];
+    let mut tally = [7u16; 10001];
     let mut scratch = [7u16; ROWS];
-    let made = set_up(&mut fields, &mut numbers, &mut levels, &mut ancestors);
+    let made = set_up(
+        &mut fields,
+        &mut numbers,
+        &mut levels,
+        &mut ancestors,
+        &mut tally,
+    );
     let run = grow_all(
         &mut fields,
         &mut numbers,
         &mut levels,
         &mut ancestors,
+        &mut tally,
         &mut scratch,
         started(made, shape as u64),
         shape,
@@ -121,7 +131,7 @@ fn report_shape(shape: u16) {
     let state = run.state;
     write_name(shape);
     write_tree(state.count, run.total);
-    write_tally(run.tally);
+    write_checks(run.checks);
 }
 
 fn report_shapes() {
@@ -135,5 +145,5 @@ fn report_shapes() {
 fn main() {
     report_shapes();
     io::write_all(1, b"limits: parts that do not fit, the empty log");
-    write_tally(limits(tally::none()));
+    write_checks(limits(checks::none()));
 }

@@ -45,7 +45,7 @@ pub fn root_of(parents: &[u16], x: u16) -> u16 {
     climb(parents, x, depth(parents, x))
 }
 
-fn one_more_if(yes: bool, n: u64) -> u64 {
+pub fn one_more_if(yes: bool, n: u64) -> u64 {
     if yes {
         if n < 1000 {
             return n + 1;

@@ -1,5 +1,5 @@
 // The lines that the trial prints.
-use crate::tally::Tally;
+use crate::checks::Checks;
 use io::print_decimal;
 use io::write_all;
 
@@ -26,7 +26,7 @@ pub fn write_tree(nodes: u16, rows: u64) {
 }
 
 // Comparisons made, and whether all were equal; or the first that was not, its call's letter and numbers.
-pub fn write_tally(t: Tally) {
+pub fn write_checks(t: Checks) {
     write_all(1, b", ");
     print_decimal(1, t.compared);
     write_all(1, b" comparisons, ");

@@ -9,7 +9,7 @@ number-of-requires : tie.Need-number-of-requires
 number-of-requires c κs = search needs
 
 returns : tie.Need-returns
-returns c = let a = c .before .before .before .before .before .before .before .args in growth-misfit (partsOf (a .fields .now) (a .numbers .now) (a .levels .now) (a .ancestors .now)) (a .out .now) _ (c .number-of .ensures) (c .before .if1 .taken)
+returns c = let a = c .before .before .before .before .before .before .before .before .args in growth-misfit (partsOf (a .fields .now) (a .numbers .now) (a .levels .now) (a .ancestors .now)) (a .tally .now) (a .out .now) _ (c .number-of .ensures) (c .before .if1 .taken)
 
 add-leaf-requires : tie.Need-add-leaf-requires
 add-leaf-requires c κs = search needs
@@ -32,10 +32,13 @@ same-length-4 c = search needs
 same-length-5 : tie.Need-same-length-5
 same-length-5 c = search needs
 
+same-length-6 : tie.Need-same-length-6
+same-length-6 c = search needs
+
 returns-2 : tie.Need-returns-2
 returns-2 c =
-    let a = c .before .before .before .before .before .before .before .before .before .before .before .before .before .before .before .before .before .before .before .before .before .before .args in
-    growth-served (partsOf (a .fields .now) (a .numbers .now) (a .levels .now) (a .ancestors .now)) _ (a .out .now) _ _ _ (c .before .before .before .before .before .before .before .before .before .before .before .before .before .before .before .before .if1 .left) (c .before .before .reply-grown .ensures) (c .before .before .before .before .before .before .before .before .before .before .before .add-leaf .ensures)
+    let a = c .before .before .before .before .before .before .before .before .before .before .before .before .before .before .before .before .before .before .before .before .before .before .before .before .before .before .args in
+    growth-served (partsOf (a .fields .now) (a .numbers .now) (a .levels .now) (a .ancestors .now)) _ (a .tally .now) _ (a .out .now) _ _ _ (c .before .before .before .before .before .before .before .before .before .before .before .before .before .before .before .before .before .before .before .if1 .left) (c .before .before .reply-grown .ensures) (c .before .before .before .before .before .before .before .before .before .before .before .before .before .add-leaf .ensures)
 
 pub nca-table-add-leaf-spec : {M : Type 1} → statement M
 nca-table-add-leaf-spec =
@@ -50,4 +53,5 @@ nca-table-add-leaf-spec =
     same-length-3
     same-length-4
     same-length-5
+    same-length-6
     returns-2)

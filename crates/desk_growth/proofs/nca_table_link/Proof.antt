@@ -10,7 +10,7 @@ number-of-requires : tie.Need-number-of-requires
 number-of-requires c κs = search needs
 
 returns : tie.Need-returns
-returns c = let a = c .before .before .before .before .before .before .before .args in link-misfit (partsOf (a .fields .now) (a .numbers .now) (a .levels .now) (a .ancestors .now)) (a .out .now) (a .scratch .now) (stateOf (a .count)) (a .x) (a .v) (a .label) (c .number-of .ensures) (c .before .if1 .taken)
+returns c = let a = c .before .before .before .before .before .before .before .before .args in link-misfit (partsOf (a .fields .now) (a .numbers .now) (a .levels .now) (a .ancestors .now)) (a .tally .now) (a .out .now) (a .scratch .now) (stateOf (a .count)) (a .x) (a .v) (a .label) (c .number-of .ensures) (c .before .if1 .taken)
 
 link-requires : tie.Need-link-requires
 link-requires c κs = search needs
@@ -36,10 +36,13 @@ same-length-5 c = search needs
 same-length-6 : tie.Need-same-length-6
 same-length-6 c = search needs
 
+same-length-7 : tie.Need-same-length-7
+same-length-7 c = search needs
+
 returns-2 : tie.Need-returns-2
 returns-2 c =
-    let a = c .before .before .before .before .before .before .before .before .before .before .before .before .before .before .before .before .before .before .before .before .before .before .before .before .before .args in
-    link-served (partsOf (a .fields .now) (a .numbers .now) (a .levels .now) (a .ancestors .now)) (a .out .now) (a .scratch .now) (stateOf (a .count)) (a .x) (a .v) (a .label) _ _ _ _ (c .before .before .before .before .before .before .before .before .before .before .before .before .before .before .before .before .before .before .before .if1 .left) (c .before .before .before .before .before .before .before .before .before .before .before .before .before .link .ensures) (c .before .before .reply-linked .ensures)
+    let a = c .before .before .before .before .before .before .before .before .before .before .before .before .before .before .before .before .before .before .before .before .before .before .before .before .before .before .before .before .before .args in
+    link-served (partsOf (a .fields .now) (a .numbers .now) (a .levels .now) (a .ancestors .now)) (a .tally .now) (a .out .now) (a .scratch .now) (stateOf (a .count)) (a .x) (a .v) (a .label) _ _ _ _ _ (c .before .before .before .before .before .before .before .before .before .before .before .before .before .before .before .before .before .before .before .before .before .before .if1 .left) (c .before .before .before .before .before .before .before .before .before .before .before .before .before .before .before .link .ensures) (c .before .before .reply-linked .ensures)
 
 pub nca-table-link-spec : {M : Type 1} → statement M
 nca-table-link-spec =
@@ -55,4 +58,5 @@ nca-table-link-spec =
     same-length-4
     same-length-5
     same-length-6
+    same-length-7
     returns-2)

@@ -9,7 +9,7 @@ number-of-requires : tie.Need-number-of-requires
 number-of-requires c κs = search needs
 
 returns : tie.Need-returns
-returns c = let a = c .before .before .before .before .before .before .args in set-up-misfit (partsOf (a .fields .now) (a .numbers .now) (a .levels .now) (a .ancestors .now)) (a .out .now) (c .number-of .ensures) (c .before .if1 .taken)
+returns c = let a = c .before .before .before .before .before .before .before .args in set-up-misfit (partsOf (a .fields .now) (a .numbers .now) (a .levels .now) (a .ancestors .now)) (a .tally .now) (a .out .now) (c .number-of .ensures) (c .before .if1 .taken)
 
 set-up-requires : tie.Need-set-up-requires
 set-up-requires c κs = search needs
@@ -32,10 +32,13 @@ same-length-4 c = search needs
 same-length-5 : tie.Need-same-length-5
 same-length-5 c = search needs
 
+same-length-6 : tie.Need-same-length-6
+same-length-6 c = search needs
+
 returns-2 : tie.Need-returns-2
 returns-2 c =
-    let a = c .before .before .before .before .before .before .before .before .before .before .before .before .before .before .before .before .before .before .before .before .before .args in
-    set-up-served (partsOf (a .fields .now) (a .numbers .now) (a .levels .now) (a .ancestors .now)) _ (a .out .now) _ _ (c .before .before .before .before .before .before .before .before .before .before .before .before .before .before .before .before .if1 .left) (c .before .before .before .before .before .before .before .before .before .before .before .set-up .ensures .0) (c .before .before .before .before .before .before .before .before .before .before .before .set-up .ensures .1) (c .before .before .reply-made .ensures)
+    let a = c .before .before .before .before .before .before .before .before .before .before .before .before .before .before .before .before .before .before .before .before .before .before .before .before .before .args in
+    set-up-served (partsOf (a .fields .now) (a .numbers .now) (a .levels .now) (a .ancestors .now)) _ (a .tally .now) _ (a .out .now) _ _ (c .before .before .before .before .before .before .before .before .before .before .before .before .before .before .before .before .before .before .before .if1 .left) (c .before .before .before .before .before .before .before .before .before .before .before .before .before .set-up .ensures .0) (c .before .before .before .before .before .before .before .before .before .before .before .before .before .set-up .ensures .1 .0) (c .before .before .before .before .before .before .before .before .before .before .before .before .before .set-up .ensures .1 .1) (c .before .before .reply-made .ensures)
 
 pub nca-table-set-up-spec : {M : Type 1} → statement M
 nca-table-set-up-spec =
@@ -50,4 +53,5 @@ nca-table-set-up-spec =
     same-length-3
     same-length-4
     same-length-5
+    same-length-6
     returns-2)

@@ -10,7 +10,7 @@ number-of-requires : tie.Need-number-of-requires
 number-of-requires c κs = search needs
 
 returns : tie.Need-returns
-returns c = let a = c .before .before .before .before .before .before .before .args in inspection-misfit (partsOf (a .fields .now) (a .numbers .now) (a .levels .now) (a .ancestors .now)) (stateOf (a .count)) (a .out .now) (a .scratch .now) (c .number-of .ensures) (c .before .if1 .taken)
+returns c = let a = c .before .before .before .before .before .before .before .before .args in inspection-misfit (partsOf (a .fields .now) (a .numbers .now) (a .levels .now) (a .ancestors .now)) (stateOf (a .count)) (a .tally .now) (a .out .now) (a .scratch .now) (c .number-of .ensures) (c .before .if1 .taken)
 
 inspect-requires : tie.Need-inspect-requires
 inspect-requires c κs = search needs
@@ -25,7 +25,7 @@ same-length-2 : tie.Need-same-length-2
 same-length-2 c = search needs
 
 returns-2 : tie.Need-returns-2
-returns-2 c = let a = c .before .before .before .before .before .before .before .before .before .before .before .before .before .before .args in inspection-served (partsOf (a .fields .now) (a .numbers .now) (a .levels .now) (a .ancestors .now)) (stateOf (a .count)) (a .out .now) (a .scratch .now) _ _ _ (c .before .before .before .before .before .before .before .before .if1 .left) (c .before .before .before .before .before .before .inspect .ensures) (c .before .before .reply-inspected .ensures)
+returns-2 c = let a = c .before .before .before .before .before .before .before .before .before .before .before .before .before .before .before .args in inspection-served (partsOf (a .fields .now) (a .numbers .now) (a .levels .now) (a .ancestors .now)) (stateOf (a .count)) (a .tally .now) (a .out .now) (a .scratch .now) _ _ _ (c .before .before .before .before .before .before .before .before .if1 .left) (c .before .before .before .before .before .before .inspect .ensures) (c .before .before .reply-inspected .ensures)
 
 pub nca-table-inspect-spec : {M : Type 1} → statement M
 nca-table-inspect-spec =

@@ -1,6 +1,6 @@
 -- `keep_made`: the tree is written where it was made.
 use Rattle.table.specs.Parts.{partsOf}
-use Rattle.desk_trees.specs.TreeCallsLaws.{written-held}
+use Rattle.bytes_tree.specs.RoundTrip.{written-held}
 use borrow.Author.Needs.{needs}
 use Rattle.desk_trees.proofs.keep_made.Statement.{statement}
 use Rattle.desk_trees.proofs.keep_made.Tie as tie
@@ -23,7 +23,7 @@ same-length c = search needs
 returns : tie.Need-returns
 returns c = (
   rw (c .before .before .before .before .before .made .given .1, c .before .before .write-tree .ensures .0),
-  rw (c .before .before .before .before .before .made .given .1) (written-held _ (c .before .before .before .before .before .made .given .0 .0) (partsOf (c .before .before .before .before .before .before .before .before .before .before .before .args .fields .now) (c .before .before .before .before .before .before .before .before .before .before .before .args .numbers .now) (c .before .before .before .before .before .before .before .before .before .before .before .args .levels .now) (c .before .before .before .before .before .before .before .before .before .before .before .args .ancestors .now)) (c .before .before .before .before .before .before .before .before .before .before .before .pre .1) (c .before .before .write-tree .ensures .0) (c .before .before .write-tree .ensures .1)),
+  rw (c .before .before .before .before .before .made .given .1) (written-held _ (c .before .before .before .before .before .made .given .0 .0) (partsOf (c .before .before .before .before .before .before .before .before .before .before .before .before .args .fields .now) (c .before .before .before .before .before .before .before .before .before .before .before .before .args .numbers .now) (c .before .before .before .before .before .before .before .before .before .before .before .before .args .levels .now) (c .before .before .before .before .before .before .before .before .before .before .before .before .args .ancestors .now)) (c .before .before .before .before .before .before .before .before .before .before .before .before .args .tally .now) (c .before .before .before .before .before .before .before .before .before .before .before .before .pre .1 .0) (c .before .before .before .before .before .before .before .before .before .before .before .before .pre .1 .1) (c .before .before .write-tree .ensures .0) (c .before .before .write-tree .ensures .1)),
 )
 
 returns-2 : tie.Need-returns-2

@@ -1,5 +1,6 @@
 -- `nca_set_up`: set-up of what the bytes hold, then the bytes.
-use Rattle.desk_trees.specs.TreeCallsLaws.{set-up-misfit, set-up-kept, set-up-held, misfit-held}
+use Rattle.replies.specs.ReplyLaws.{misfit-held}
+use Rattle.desk_trees.specs.TreeCallsLaws.{set-up-misfit, set-up-kept, set-up-held}
 use borrow.Author.Needs.{needs}
 use Rattle.desk_trees.proofs.nca_set_up.Statement.{statement}
 use Rattle.desk_trees.proofs.nca_set_up.Tie as tie
@@ -25,6 +26,12 @@ slice-aggregate-read-parts-4 c = search needs
 read-parts-requires : tie.Need-read-parts-requires
 read-parts-requires c κs = search needs
 
+slice-aggregate-read-tally : tie.Need-slice-aggregate-read-tally
+slice-aggregate-read-tally c = search needs
+
+read-tally-requires : tie.Need-read-tally-requires
+read-tally-requires c κs = search needs
+
 slice-aggregate-set-up : tie.Need-slice-aggregate-set-up
 slice-aggregate-set-up c = search needs
 
@@ -36,6 +43,9 @@ slice-aggregate-set-up-3 c = search needs
 
 slice-aggregate-set-up-4 : tie.Need-slice-aggregate-set-up-4
 slice-aggregate-set-up-4 c = search needs
+
+slice-aggregate-set-up-5 : tie.Need-slice-aggregate-set-up-5
+slice-aggregate-set-up-5 c = search needs
 
 set-up-requires : tie.Need-set-up-requires
 set-up-requires c κs = search needs
@@ -52,6 +62,9 @@ slice-aggregate-keep-made-3 c = search needs
 slice-aggregate-keep-made-4 : tie.Need-slice-aggregate-keep-made-4
 slice-aggregate-keep-made-4 c = search needs
 
+slice-aggregate-keep-made-5 : tie.Need-slice-aggregate-keep-made-5
+slice-aggregate-keep-made-5 c = search needs
+
 keep-made-requires : tie.Need-keep-made-requires
 keep-made-requires c κs = search needs
 
@@ -59,7 +72,7 @@ same-length : tie.Need-same-length
 same-length c = search needs
 
 returns-2 : tie.Need-returns-2
-returns-2 c = (set-up-kept (c .before .before .before .before .before .before .before .before .before .before .before .before .before .before .before .before .before .before .before .before .before .before .before .before .before .before .before .before .before .args .tree .now) _ _ _ _ (c .before .before .before .before .before .before .before .before .before .before .before .before .before .before .before .before .before .before .before .before .before .before .before .before .before .before .before .if1 .left) (c .before .before .before .before .before .before .before .before .before .before .before .before .before .before .before .before .before .before .before .before .before .read-parts .ensures) (c .before .before .before .before .before .before .before .before .before .before .before .before .set-up .ensures .0) (c .before .before .before .before .before .before .before .before .before .before .before .before .set-up .ensures .1) (c .before .before .keep-made .ensures .0), λ _. set-up-held (c .before .before .before .before .before .before .before .before .before .before .before .before .before .before .before .before .before .before .before .before .before .before .before .before .before .before .before .before .before .args .tree .now) _ _ _ _ (c .before .before .before .before .before .before .before .before .before .before .before .before .before .before .before .before .before .before .before .before .before .read-parts .ensures) (c .before .before .before .before .before .before .before .before .before .before .before .before .set-up .ensures .0) (c .before .before .before .before .before .before .before .before .before .before .before .before .set-up .ensures .1) (c .before .before .keep-made .ensures .1))
+returns-2 c = (set-up-kept (c .before .before .before .before .before .before .before .before .before .before .before .before .before .before .before .before .before .before .before .before .before .before .before .before .before .before .before .before .before .before .before .before .before .before .before .before .args .tree .now) _ _ _ _ _ _ (c .before .before .before .before .before .before .before .before .before .before .before .before .before .before .before .before .before .before .before .before .before .before .before .before .before .before .before .before .before .before .before .before .before .before .if1 .left) (c .before .before .before .before .before .before .before .before .before .before .before .before .before .before .before .before .before .before .before .before .before .before .before .before .before .before .before .before .read-parts .ensures) (c .before .before .before .before .before .before .before .before .before .before .before .before .before .before .before .before .before .before .before .before .before .read-tally .ensures) (c .before .before .before .before .before .before .before .before .before .before .before .before .before .before .set-up .ensures .0) (c .before .before .before .before .before .before .before .before .before .before .before .before .before .before .set-up .ensures .1 .0) (c .before .before .before .before .before .before .before .before .before .before .before .before .before .before .set-up .ensures .1 .1) (c .before .before .keep-made .ensures .0), λ _. set-up-held (c .before .before .before .before .before .before .before .before .before .before .before .before .before .before .before .before .before .before .before .before .before .before .before .before .before .before .before .before .before .before .before .before .before .before .before .before .args .tree .now) _ _ _ _ _ _ (c .before .before .before .before .before .before .before .before .before .before .before .before .before .before .before .before .before .before .before .before .before .before .before .before .before .before .before .before .read-parts .ensures) (c .before .before .before .before .before .before .before .before .before .before .before .before .before .before .before .before .before .before .before .before .before .read-tally .ensures) (c .before .before .before .before .before .before .before .before .before .before .before .before .before .before .set-up .ensures .0) (c .before .before .before .before .before .before .before .before .before .before .before .before .before .before .set-up .ensures .1 .0) (c .before .before .before .before .before .before .before .before .before .before .before .before .before .before .set-up .ensures .1 .1) (c .before .before .keep-made .ensures .1))
 
 pub nca-set-up-spec : {M : Type 1} → statement M
 nca-set-up-spec =
@@ -72,15 +85,19 @@ nca-set-up-spec =
     slice-aggregate-read-parts-3
     slice-aggregate-read-parts-4
     read-parts-requires
+    slice-aggregate-read-tally
+    read-tally-requires
     slice-aggregate-set-up
     slice-aggregate-set-up-2
     slice-aggregate-set-up-3
     slice-aggregate-set-up-4
+    slice-aggregate-set-up-5
     set-up-requires
     slice-aggregate-keep-made
     slice-aggregate-keep-made-2
     slice-aggregate-keep-made-3
     slice-aggregate-keep-made-4
+    slice-aggregate-keep-made-5
     keep-made-requires
     same-length
     returns-2)

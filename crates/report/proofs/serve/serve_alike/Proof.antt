@@ -11,7 +11,7 @@ compared-requires : tie.Need-compared-requires
 compared-requires c κs = search needs
 
 returns : tie.Need-returns
-returns c = let a = c .before .before .before .before .before .args in alike-report _ (a .state) (a .x) (a .y) (c .compared .result) _ (c .before .same-labels .ensures) (c .compared .ensures)
+returns c w = let a = c .before .before .before .before .before .args in alike-report _ w (a .state) (a .x) (a .y) (c .compared .result) _ (c .before .same-labels .ensures) (c .compared .ensures)
 
 pub serve-alike-spec : {M : Type 1} → statement M
 serve-alike-spec = tie.close (tie.spec same-labels-requires compared-requires returns)

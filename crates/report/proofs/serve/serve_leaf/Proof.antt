@@ -23,10 +23,13 @@ same-length-3 c = search needs
 same-length-4 : tie.Need-same-length-4
 same-length-4 c = search needs
 
+same-length-5 : tie.Need-same-length-5
+same-length-5 c = search needs
+
 returns : tie.Need-returns
-returns c = let a = c .before .before .before .before .before .before .before .before .before .before .before .before .before .before .before .before .before .before .args in let o = c .after-growth .ensures in
-    leaf-report (partsOf (a .fields .now) (a .numbers .now) (a .levels .now) (a .ancestors .now)) _ (a .state) _ (c .after-growth .result) (a .parent) (a .label) (a .scratch .now)
-    (c .before .before .before .before .before .before .before .before .before .add-leaf .ensures) (record { shown = o .0; rows = o .1 .0; state = o .1 .1 })
+returns c = let a = c .before .before .before .before .before .before .before .before .before .before .before .before .before .before .before .before .before .before .before .before .before .before .args in let o = c .after-growth .ensures in
+    leaf-report (partsOf (a .fields .now) (a .numbers .now) (a .levels .now) (a .ancestors .now)) _ (a .tally .now) _ (a .state) _ (c .after-growth .result) (a .parent) (a .label) (a .scratch .now)
+    (c .before .before .before .before .before .before .before .before .before .before .before .add-leaf .ensures) (record { shown = o .0; rows = o .1 .0; state = o .1 .1 })
 
 pub serve-leaf-spec : {M : Type 1} → statement M
 serve-leaf-spec =
@@ -38,4 +41,5 @@ serve-leaf-spec =
     same-length-2
     same-length-3
     same-length-4
+    same-length-5
     returns)

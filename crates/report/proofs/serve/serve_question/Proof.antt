@@ -11,7 +11,7 @@ answered-requires : tie.Need-answered-requires
 answered-requires c κs = search needs
 
 returns : tie.Need-returns
-returns c = let a = c .before .before .before .before .before .args in question-report _ (a .state) (a .x) (a .y) (c .answered .result) _ (c .before .characteristic-ancestors .ensures) (c .answered .ensures)
+returns c w = let a = c .before .before .before .before .before .args in question-report _ w (a .state) (a .x) (a .y) (c .answered .result) _ (c .before .characteristic-ancestors .ensures) (c .answered .ensures)
 
 pub serve-question-spec : {M : Type 1} → statement M
 serve-question-spec =

@@ -16,7 +16,7 @@ add-t8 c = search needs
 
 returns : tie.Need-returns
 returns c = let a = c .before .before .before .before .before .args in let l = c .before .line .ensures in (
-  λ t. refused-step t (c .before .line .result) (a .reading) (a .next) (a .n) (c .before .before .before .refused .result) (c .before .before .before .refused .ensures) (l .0),
+  λ t w. refused-step t w (c .before .line .result) (a .reading) (a .next) (a .n) (c .before .before .before .refused .result) (c .before .before .before .refused .ensures) (l .0),
   record { text = text-holds (c .before .line .result) _ l; ordinal = omega arith; total = omega arith },
 )
 

@@ -19,7 +19,7 @@ add-t10 c = search needs
 
 returns : tie.Need-returns
 returns c = let a = c .before .before .before .before .before .before .before .args in let l = c .before .before .before .line .ensures in (
-  λ t. served-step t (c .before .before .before .line .result) (a .reading) (a .next) (a .served) (l .0),
+  λ t w. served-step t w (c .before .before .before .line .result) (a .reading) (a .next) (a .served) (l .0),
   record { text = text-holds (c .before .before .before .line .result) _ l; ordinal = omega arith; total = omega (arith, c .before .struct-known2 .given .0) },
 )
 

@@ -8,12 +8,12 @@ use Rattle.trial.proofs.grow.grow_all.Statement.{statement}
 use Rattle.trial.proofs.grow.grow_all.Tie as tie
 
 abbrev Inv-loop : tie.InvT-loop
-Inv-loop fields₀ numbers₀ levels₀ ancestors₀ scratch₀ shape r₀ turn₀ fields numbers levels ancestors scratch r turn =
+Inv-loop fields₀ numbers₀ levels₀ ancestors₀ tally₀ scratch₀ shape r₀ turn₀ fields numbers levels ancestors tally scratch r turn =
     (length fields ≡ length fields₀) × (length numbers ≡ length numbers₀) × (length levels ≡ length levels₀)
-    × (length ancestors ≡ length ancestors₀) × (length scratch ≡ length scratch₀)
+    × (length ancestors ≡ length ancestors₀) × (length tally ≡ length tally₀) × (length scratch ≡ length scratch₀)
 
 abbrev μ-loop : tie.MeasureT-loop
-μ-loop fields₀ numbers₀ levels₀ ancestors₀ scratch₀ shape r₀ turn₀ fields numbers levels ancestors scratch r turn = 200 - turn
+μ-loop fields₀ numbers₀ levels₀ ancestors₀ tally₀ scratch₀ shape r₀ turn₀ fields numbers levels ancestors tally scratch r turn = 200 - turn
 
 loop-holds : tie.Need-loop-holds Inv-loop μ-loop
 loop-holds c = search needs
@@ -45,6 +45,9 @@ same-length-4 c = omega arith
 same-length-5 : tie.Need-same-length-5 Inv-loop μ-loop
 same-length-5 c = omega arith
 
+same-length-6 : tie.Need-same-length-6 Inv-loop μ-loop
+same-length-6 c = omega arith
+
 returns : tie.Need-returns Inv-loop μ-loop
 returns c = search needs
 
@@ -64,4 +67,5 @@ grow-all-spec =
     same-length-3
     same-length-4
     same-length-5
+    same-length-6
     returns)

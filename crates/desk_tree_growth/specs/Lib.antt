@@ -1,0 +1,2 @@
+pub mod TreeGrowthCalls
+pub mod TreeGrowthCallsLaws

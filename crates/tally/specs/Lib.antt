@@ -1,0 +1,10 @@
+pub mod Layout
+pub mod Tally
+pub mod Fit
+pub mod FitLaws
+pub mod Most
+pub mod MostLaws
+pub mod Count
+pub mod CountLaws
+pub mod TallyLaws
+pub mod Test

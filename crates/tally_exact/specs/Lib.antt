@@ -1,0 +1,4 @@
+pub mod MostExact
+pub mod TestExact
+pub mod CountExact
+pub mod RoomExact

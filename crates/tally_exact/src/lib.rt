@@ -1,0 +1,1 @@
+// Laws only: what the calls keep of a tally is the full count. No code.
