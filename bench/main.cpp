@@ -2,26 +2,13 @@
 // Every answer of every structure is compared: a difference ends the run.
 #include "engine.hpp"
 #include "fat_preorder.hpp"
+#include "filler.hpp"
 #include "growths.hpp"
 #include "jump_pointers.hpp"
 #include "parent_walk.hpp"
+#include "timing.hpp"
 #include <functional>
 #include <limits>
-#include <time.h>
-
-// Processor time: other work on the machine does not count.
-static double seconds() {
-    timespec now{};
-    clock_gettime(CLOCK_THREAD_CPUTIME_ID, &now);
-    return double(now.tv_sec) + double(now.tv_nsec) * 1e-9;
-}
-
-// Nanoseconds of one run. Of several the least counts: what disturbs a run only makes it longer.
-static double timed(const std::function<void()> &work) {
-    double from = seconds();
-    work();
-    return (seconds() - from) * 1e9;
-}
 
 static uint16_t label_of(size_t i) { return uint16_t(i % 9999 + 1); }
 
@@ -41,12 +28,6 @@ static std::vector<Pair> pairs(uint32_t n, size_t count, Random &random) {
     std::vector<Pair> list(count);
     for (auto &p : list) p = {uint16_t(random.below(n)), uint16_t(random.below(n))};
     return list;
-}
-
-static void same(bool equal, const char *what) {
-    if (equal) return;
-    std::fprintf(stderr, "difference: %s\n", what);
-    std::exit(1);
 }
 
 // One pass over the pairs: the least time to a question so far, and a sum over all answers.
@@ -241,6 +222,7 @@ int main(int argc, char **argv) {
     for (auto &shape : shapes) measure_link(shape, 16384);
     std::printf("\nBytes a row: engine %.0f (and 2 of scratch), C++ %.0f, parent walk %.0f, jump pointers %.0f; beside the rows 20,002 for a tally, in the engine and in C++.\n", Engine::bytes_per_row, Plain::bytes_per_row,
                 ParentWalk::bytes_per_row, JumpPointers::bytes_per_row);
+    measure_fillers();
     if (argc > 1) depths(argv[1]);
     return 0;
 }

@@ -1,5 +1,5 @@
-/* A C host of the library: plays a log through the table form and through byte trees, prints what each call gave, and checks the refusals of a host.
- * What it writes is held against client/expected. */
+/* A C host of the library: plays a log through the table form and through byte trees, prints what each call gave, and checks the refusals of a host and of
+ * the log reader. What it writes is held against client/expected. */
 #include "vundreli.h"
 
 #include <stdio.h>
@@ -182,36 +182,59 @@ struct form {
 static const struct form TABLE = {table_set_up, table_add_leaf, table_add_root, table_query, table_tally};
 static const struct form TREE = {tree_set_up, tree_add_leaf, tree_add_root, tree_query, tree_tally};
 
-static unsigned big_endian(const uint8_t *b) { return 256u * b[0] + b[1]; }
-
-/* One field of a well-formed log; the rows that it renumbered. */
-static unsigned play_field(const struct form *f, unsigned ordinal, const uint8_t *field) {
-    unsigned tag = field[0], refusal;
+/* One field, its tag and two values; the rows that it renumbered. */
+static unsigned play_field(const struct form *f, unsigned ordinal, const uint16_t field[3]) {
+    unsigned refusal;
     struct growth g = {0, 0, 0, 0};
     struct answer a = {{0}};
-    if (tag == 3)
-        refusal = f->query(big_endian(field + 3), big_endian(field + 5), &a);
-    else if (tag == 1)
-        refusal = f->add_leaf(big_endian(field + 3), big_endian(field + 5), &g);
+    if (field[0] == NCA_QUESTION)
+        refusal = f->query(field[1], field[2], &a);
+    else if (field[0] == NCA_LEAF)
+        refusal = f->add_leaf(field[1], field[2], &g);
     else
         refusal = f->add_root(&g);
     if (refusal != 0)
         printf("%u R %u\n", ordinal, refusal);
-    else if (tag == 3)
+    else if (field[0] == NCA_QUESTION)
         printf("%u Q %ld %ld %ld %ld %ld %ld\n", ordinal, a.values[0], a.values[1], a.values[2], a.values[3], a.values[4], a.values[5]);
     else
-        printf("%u %c %u %d %u %u\n", ordinal, tag == 1 ? 'L' : 'T', g.node, g.level, g.rows, g.head);
+        printf("%u %c %u %d %u %u\n", ordinal, field[0] == NCA_LEAF ? 'L' : 'T', g.node, g.level, g.rows, g.head);
     return g.rows;
 }
 
 static void play(const struct form *f, unsigned (*count)(void)) {
     unsigned ordinal = 0, total = 0;
+    uint16_t field[3];
     expect(f->set_up() == 0, "set-up is served");
     printf("echo %d\n", CAPACITY);
-    for (size_t at = 0; at < sizeof LOG; at += 3 + big_endian(LOG + at + 1))
-        total += play_field(f, ++ordinal, LOG + at);
+    for (size_t at = 0; nca_log_field(LOG, sizeof LOG, at, field, 3) == 0 && field[0] != NCA_END; at = nca_log_next(LOG, sizeof LOG, at))
+        total += play_field(f, ++ordinal, field);
     printf("end %u %u\n", count(), total);
     printf("most %u %u\n", f->tally(MOST), f->tally(f->tally(MOST)));
+}
+
+/* A log with fields that are refused: the reader goes on past each, but stays at one that is cut short. */
+static void log_calls(void) {
+    static const uint8_t log[] = {
+        5, 0, 1, 0,
+        2, 0, 1, 0,
+        9, 0, 9, 0, 0, 0, 0, 0, 0, 0, 0, 1,
+        9, 0, 9, 0, 0, 0, 0, 0, 0, 0, 0, 0,
+        4, 0, 4, 0, 1, 1, 0,
+        1, 0, 4, 0,
+    };
+    static const uint16_t refusals[] = {NCA_BAD_TAG, NCA_BAD_LENGTH, NCA_DIRTY_FILLER, 0, 0, NCA_CUT_SHORT};
+    uint16_t field[3] = {0, 0, 0};
+    size_t at = 0;
+    for (size_t i = 0; i < sizeof refusals / sizeof *refusals; i++) {
+        expect(nca_log_field(log, sizeof log, at, field, 3) == refusals[i], "a field is read or refused");
+        if (i + 1 < sizeof refusals / sizeof *refusals)
+            at = nca_log_next(log, sizeof log, at);
+    }
+    expect(field[0] == NCA_ALIKE && field[1] == 1 && field[2] == 256, "a refusal leaves the out slice as it was");
+    expect(nca_log_next(log, sizeof log, at) == at, "the reader stays where a field is cut short");
+    expect(nca_log_field(log, sizeof log, 0, field, 2) == NCA_MISFIT, "an out slice of two places is a misfit");
+    expect(nca_log_field(log, sizeof log, sizeof log, field, 3) == 0 && field[0] == NCA_END, "past the last byte is the end");
 }
 
 /* A path of as many nodes as there is room for, and one more. */
@@ -347,6 +370,7 @@ int main(void) {
     tree_calls();
     fill(&TREE);
     compare();
+    log_calls();
     printf("%d failed\n", failures);
     return failures != 0;
 }

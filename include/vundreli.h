@@ -1,6 +1,6 @@
 /* Vundreli: nearest common ancestors in trees that grow, and are linked, while they are asked.
  *
- * Each call answers 0, or the number of the refusal. A refusal changes no slice that was lent.
+ * Each call but nca_log_next answers 0, or the number of the refusal. A refusal changes no slice that was lent.
  * A slice is a pointer and a count of elements. An out slice must have exactly the count that stands at its call; else the call is a misfit.
  * A pointer names memory for all its elements, aligned for them, and no two slices of one call overlap where one of them is written.
  * docs/FORMAT.md has the places of all numbers. */
@@ -23,6 +23,10 @@ enum nca_refusal {
     NCA_MISFIT = 3,       /* the slices do not fit one capacity from 1 to 32,768, or a tally or an out slice is of another length */
     NCA_CORRUPT = 4,      /* the table or the tally is none that these calls left */
     NCA_BAD_LABEL = 5,    /* a label outside 1 to 9,999 */
+    NCA_BAD_TAG = 6,      /* of a log's field: no such tag */
+    NCA_BAD_LENGTH = 7,   /* a length that the tag does not have */
+    NCA_CUT_SHORT = 8,    /* the log ends within the field */
+    NCA_DIRTY_FILLER = 9, /* filler with a byte that is not zero */
     NCA_NOT_ROOT = 10,    /* a new root over, or a link of, a node that is not the root of its tree */
     NCA_SAME_TREE = 11,   /* a link under a node of the same tree */
     NCA_OTHER_TREE = 12   /* a question to nodes of two trees */
@@ -110,6 +114,24 @@ uint16_t nca_add_root(uint8_t *tree, size_t tree_len, uint8_t *out, size_t out_l
 
 /* out (16 bytes): the nearest common ancestor (2), the branches towards x (2) and y (2), the distances of x (4) and y (4) from it, its label (2). */
 uint16_t nca_query(const uint8_t *tree, size_t tree_len, uint16_t x, uint16_t y, uint8_t *out, size_t out_len);
+
+/* Logs. A log is a run of fields: a tag (1 byte), a length (2 bytes, high byte first) and a body of that length. The reader needs no table. */
+
+enum nca_tag {
+    NCA_END = 0, /* no field: the log ends there */
+    NCA_LEAF = 1,
+    NCA_ROOT = 2,
+    NCA_QUESTION = 3,
+    NCA_ALIKE = 4,
+    NCA_FILLER = 9
+};
+
+/* The field at a place of a log. out (3): its tag, and its values: parent and label of a leaf, x and y of a question and of alike, else 0 and 0.
+ * At the log's end, and at a place past it, all three are 0. */
+uint16_t nca_log_field(const uint8_t *log, size_t log_len, size_t at, uint16_t *out, size_t out_len);
+
+/* The place past the field at a place, which it has on a refusal too; the same place where the log ends there or the field is cut short. */
+size_t nca_log_next(const uint8_t *log, size_t log_len, size_t at);
 
 #ifdef __cplusplus
 }

@@ -92,7 +92,7 @@ fn listing(log: &[u8]) -> String {
 }
 
 /// A log of fields that mostly make sense.
-fn log(fields: usize, random: &mut Random) -> Vec<u8> {
+pub fn log(fields: usize, random: &mut Random) -> Vec<u8> {
     let (mut bytes, mut nodes) = (Vec::new(), 0usize);
     for _ in 0..fields {
         let mut node = || if random.one_in(16) { random.word() as u16 } else { random.below(nodes.min(CAPACITY).max(1)) as u16 };
@@ -115,7 +115,7 @@ fn log(fields: usize, random: &mut Random) -> Vec<u8> {
 }
 
 /// Bytes overwritten, taken out or put in, and the end cut off.
-fn damage(log: &mut Vec<u8>, random: &mut Random) {
+pub fn damage(log: &mut Vec<u8>, random: &mut Random) {
     for _ in 0..random.below(5) {
         let place = random.below(log.len());
         match random.below(4) {
@@ -148,8 +148,15 @@ fn compare(log: &[u8]) {
 fn written(log: &str) -> (&str, Vec<u8>, String) {
     let byte = |field: &str, i: usize| u8::from_str_radix(&field[i..i + 2], 16).expect("a byte");
     let (name, lines) = log.split_once('\n').expect("a name");
-    let fields = lines.lines().filter_map(|line| line.strip_prefix("< "));
-    let bytes = fields.flat_map(|field| (0..field.len()).step_by(2).map(move |i| byte(field, i))).collect();
+    let mut bytes = Vec::new();
+    for line in lines.lines() {
+        if let Some(field) = line.strip_prefix("< ") {
+            bytes.extend((0..field.len()).step_by(2).map(|i| byte(field, i)));
+        }
+        if let Some(zeros) = line.strip_prefix("<0 ") {
+            bytes.resize(bytes.len() + zeros.parse::<usize>().expect("how many"), 0);
+        }
+    }
     let printed = lines.lines().filter(|line| !line.starts_with('<')).map(|line| format!("{line}\n")).collect();
     (name, bytes, printed)
 }
@@ -161,6 +168,31 @@ pub fn vectors() -> String {
     for (name, bytes, expected) in logs.map(written) {
         equal(listing(&bytes), expected.clone(), || format!("the printer on log {name}"));
         equal(run(&bytes), expected, || format!("log {name}"));
+    }
+    format!("{count} logs")
+}
+
+/// A new root, filler with these bytes of it set, and a leaf.
+fn filler_log(length: usize, bytes: &[(usize, u8)]) -> Vec<u8> {
+    let mut log = vec![2, 0, 0, 9, (length / 256) as u8, (length % 256) as u8];
+    log.resize(log.len() + length, 0);
+    bytes.iter().for_each(|(i, b)| log[6 + i] = *b);
+    log.extend([1, 0, 4, 0, 0, 0, 7]);
+    log
+}
+
+/// Filler through the program: of 7, 8 and 9 bytes with each of them set; as much as the program reads, one more, and the longest, which it cuts short.
+pub fn filler() -> String {
+    let mut random = Random::new(9);
+    let mut count = 0;
+    for length in [7, 8, 9, LONGEST - 13, LONGEST - 6, LONGEST - 5, 65_535] {
+        let places: Vec<_> =
+            if length < 10 { (0..length).collect() } else { (0..20).map(|_| random.below(length)).chain([0, length - 1]).collect() };
+        compare(&filler_log(length, &[]));
+        for i in &places {
+            [1, 128, 255].iter().for_each(|b| compare(&filler_log(length, &[(*i, *b)])));
+        }
+        count += 1 + 3 * places.len();
     }
     format!("{count} logs")
 }

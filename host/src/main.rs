@@ -7,6 +7,7 @@ mod cases;
 mod checks;
 mod damage;
 mod engine;
+mod fields;
 mod frame;
 mod growing;
 mod hand;
@@ -29,7 +30,7 @@ mod vectors;
 use std::process::ExitCode;
 
 /// A group of tests, and what it says of itself beside its counts.
-const GROUPS: [(&str, fn() -> String); 22] = [
+const GROUPS: [(&str, fn() -> String); 25] = [
     ("capacities 0, 1, 32,768 and 32,769", cases::capacities),
     ("parts that do not fit", cases::misfits),
     ("answers of another length", cases::answers),
@@ -50,7 +51,10 @@ const GROUPS: [(&str, fn() -> String); 22] = [
     ("byte trees that do not fit", trees::misfits),
     ("lists of calls on byte trees", trees::lists),
     ("damaged byte trees", trees::damaged),
+    ("the log reader at every place", fields::places),
+    ("the log reader on filler", fields::filler),
     ("written logs", logs::vectors),
+    ("filler through the log program", logs::filler),
     ("good and damaged logs", logs::logs),
 ];
 

@@ -1,8 +1,8 @@
-// Numbers and zeros in a run of bytes.
+// Numbers in a run of bytes.
 ghost use mathlib.Core.Path.{_≡_};
 ghost use Prim.Native.Nat.{_+_, _*_, _<_};
 ghost use lib.ListN.{length};
-ghost use Rattle.log.specs.Bytes.{numberAt, allZero};
+ghost use Rattle.log.specs.Bytes.{numberAt};
 
 // The 16-bit number of two bytes.
 fn number(high: u8, low: u8) -> u16
@@ -17,18 +17,4 @@ pub fn number_at(bytes: &[u8], i: usize) -> u16
     ensures { λ r. ⌜ r ≡ numberAt (now (bytes .entry)) i ⌝ }
 {
     number(bytes[i], bytes[i + 1])
-}
-
-// Whether every byte is zero.
-pub fn all_zero(bytes: &[u8]) -> bool
-    ensures { λ r. ⌜ r ≡ allZero (now (bytes .entry)) ⌝ }
-{
-    let mut i: usize = 0;
-    while i < bytes.len() {
-        if bytes[i] != 0 {
-            return false;
-        }
-        i += 1;
-    }
-    true
 }

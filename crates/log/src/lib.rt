@@ -1,8 +1,8 @@
 // The log reader (document 01, "The log"): the field at a place of a log, and its body as a part of the log itself.
 mod bytes;
 
-use bytes::all_zero;
 use bytes::number_at;
+use zeros::all_zero;
 ghost use mathlib.Core.Path.{_≡_};
 ghost use Rattle.log.specs.Outcome.{outcomeOf};
 ghost use Rattle.log.specs.Field.{wholeField, nextAt, fieldAt};

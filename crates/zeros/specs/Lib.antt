@@ -1,0 +1,4 @@
+pub mod Zeros
+pub mod Passed
+pub mod WordZero
+pub mod ZeroLaws

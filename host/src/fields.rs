@@ -1,0 +1,142 @@
+//! The log reader (include/vundreli.h) against one written apart: at every place of good and damaged logs, and on filler of many lengths, clean and
+//! with bytes that are not zero.
+
+use crate::checks::{check, equal};
+use crate::lent::Lent;
+use crate::logs;
+use crate::random::Random;
+
+mod raw {
+    #[link(name = "vundreli", kind = "static")]
+    extern "C" {
+        pub fn nca_log_field(log: *const u8, log_len: usize, at: usize, out: *mut u16, out_len: usize) -> u16;
+        pub fn nca_log_next(log: *const u8, log_len: usize, at: usize) -> usize;
+    }
+}
+
+const VALUES: usize = 3;
+const LOGS: usize = 200;
+const LONGEST: usize = 65_535;
+
+/// A field's tag and its two values, zeros at the log's end; or the refusal.
+type Field = Result<[u16; VALUES], u16>;
+
+fn field_to(mut out: Lent<u16>, log: &Lent<u8>, at: usize) -> Field {
+    let (l, o) = (log.part(), out.part_mut());
+    let code = unsafe { raw::nca_log_field(l.as_ptr(), l.len(), at, o.as_mut_ptr(), o.len()) };
+    check(log.is_guarded() && out.is_guarded(), || format!("the field at {at} touched a guard"));
+    if code == 0 {
+        return Ok(out.part().try_into().expect("three values"));
+    }
+    check(out.part().iter().all(|c| *c == 0xA5C3), || format!("the field at {at} was refused by {code} and stored an answer"));
+    Err(code)
+}
+
+/// The field at a place, and the next place.
+fn read(log: &Lent<u8>, at: usize) -> (Field, usize) {
+    let next = unsafe { raw::nca_log_next(log.part().as_ptr(), log.part().len(), at) };
+    (field_to(Lent::marked(VALUES), log, at), next)
+}
+
+/// The same by document 01's words.
+fn naive(log: &[u8], at: usize) -> (Field, usize) {
+    let rest = log.get(at..).unwrap_or(&[]);
+    if rest.is_empty() {
+        return (Ok([0; VALUES]), at);
+    }
+    let Some(body) = rest.get(1..3).and_then(|n| rest[3..].get(..usize::from(n[0]) * 256 + usize::from(n[1]))) else {
+        return (Err(8), at);
+    };
+    let number = |i: usize| u16::from_be_bytes([body[i], body[i + 1]]);
+    let field = match (rest[0], body.len()) {
+        (tag @ (1 | 3 | 4), 4) => Ok([tag.into(), number(0), number(2)]),
+        (2, 0) => Ok([2, 0, 0]),
+        (1..=4, _) => Err(7),
+        (9, _) if body.iter().all(|b| *b == 0) => Ok([9, 0, 0]),
+        (9, _) => Err(9),
+        _ => Err(6),
+    };
+    (field, at + 3 + body.len())
+}
+
+fn lent(bytes: &[u8]) -> Lent<u8> {
+    let mut log = Lent::new(bytes.len(), 0);
+    log.part_mut().copy_from_slice(bytes);
+    log
+}
+
+fn compare(log: &Lent<u8>, at: usize, what: impl Fn() -> String) {
+    equal(read(log, at), naive(log.part(), at), || format!("place {at} of {}", what()));
+}
+
+/// Every place of a log and some past it, whether a field starts there or not; an answer of another length is refused before all else.
+pub fn places() -> String {
+    let mut random = Random::new(103);
+    for round in 0..LOGS {
+        let mut bytes = logs::log([0, 10, 40, 200][round % 4], &mut random);
+        if round % 4 != 0 && round % 3 != 0 {
+            logs::damage(&mut bytes, &mut random);
+        }
+        let log = lent(&bytes);
+        for at in (0..bytes.len() + 4).chain([usize::MAX - 3, usize::MAX - 2, usize::MAX - 1, usize::MAX]) {
+            compare(&log, at, || format!("log {round}"));
+        }
+        for length in [0, 1, 2, 4, 5] {
+            let at = random.below(bytes.len() + 2);
+            equal(field_to(Lent::marked(length), &log, at), Err(3), || format!("an answer of {length} values"));
+        }
+    }
+    format!("{LOGS} logs")
+}
+
+/// A log with filler of this length at a place, bytes that are not zero before it and after it.
+fn filler_at(at: usize, length: usize) -> Lent<u8> {
+    let mut bytes = vec![0xFF; at];
+    bytes.extend([9, (length / 256) as u8, (length % 256) as u8]);
+    bytes.extend(std::iter::repeat(0).take(length).chain([0xFF; 9]));
+    lent(&bytes)
+}
+
+/// With these bytes of its body set, filler is refused by 9, else served; its bytes are zeros again after it.
+fn with_bytes(log: &mut Lent<u8>, at: usize, length: usize, bytes: &[(usize, u8)]) {
+    bytes.iter().for_each(|(i, b)| log.part_mut()[at + 3 + i] = *b);
+    let field = if bytes.is_empty() { Ok([9, 0, 0]) } else { Err(9) };
+    equal(read(log, at), (field, at + 3 + length), || format!("filler of {length} bytes at {at} with {bytes:?}"));
+    bytes.iter().for_each(|(i, _)| log.part_mut()[at + 3 + i] = 0);
+}
+
+/// Lengths 0 to 39 at eight places, clean, and with each bit set at each place; pairs of bytes whose sum vanishes in 8 bits, and longer runs of that kind.
+fn short() {
+    for length in 0..40 {
+        for at in 0..8 {
+            let mut log = filler_at(at, length);
+            with_bytes(&mut log, at, length, &[]);
+            for i in 0..length {
+                (0..8).for_each(|bit| with_bytes(&mut log, at, length, &[(i, 1 << bit)]));
+                with_bytes(&mut log, at, length, &[(i, 255)]);
+                for j in i + 1..length {
+                    [(128, 128), (1, 255), (1, 254)].iter().for_each(|(b, c)| with_bytes(&mut log, at, length, &[(i, *b), (j, *c)]));
+                }
+            }
+            for byte in [32, 255] {
+                let run: Vec<_> = (0..length).map(|i| (i, byte)).collect();
+                with_bytes(&mut log, at, length, &run);
+            }
+        }
+    }
+}
+
+/// The longest filler, clean and with one byte that is not zero, at every place of it.
+fn longest() {
+    for at in [0, 5] {
+        let mut log = filler_at(at, LONGEST);
+        with_bytes(&mut log, at, LONGEST, &[]);
+        (0..LONGEST).for_each(|i| with_bytes(&mut log, at, LONGEST, &[(i, 1 << (i % 8))]));
+    }
+}
+
+pub fn filler() -> String {
+    short();
+    longest();
+    format!("lengths 0 to 39 and {LONGEST}")
+}
