@@ -1,42 +1,17 @@
-// The table form for a C host, as include/vundreli.h declares it: the calls that change a table. The lent parts and the tally are handed over as they are,
-// the count by value. A slice is a pointer and a count.
+// The table form for a C host, as include/vundreli.h declares it: the growths. The lent parts and the tally are handed over as they are, the count by value.
+// A slice is a pointer and a count.
 use replies::reply_grown;
-use replies::reply_linked;
-use replies::reply_made;
 use table::refusal::Refusal;
 use table::refusal::number_of;
 use table::state::State;
 ghost use mathlib.Core.Path.{_≡_};
 ghost use lib.ListN.{length};
 ghost use Rattle.table.specs.Parts.{partsOf};
-ghost use Rattle.replies.specs.Reply.{stateOf, reply};
-ghost use Rattle.desk_growth.specs.GrowthCalls.{outcome, setUpCall, firstCall, leafCall, rootCall, LinkCall};
+ghost use Rattle.replies.specs.Reply.{stateOf, reply, outcome};
+ghost use Rattle.desk_growth.specs.GrowthCalls.{firstCall, leafCall, rootCall};
 
-// How many values each call has for its out slice.
-const MADE_OUT: usize = 1;
-
+// How many values a growth has for its out slice.
 const GROWN_OUT: usize = 4;
-
-const LINKED_OUT: usize = 2;
-
-// An empty table. Out: count.
-#[no_mangle]
-pub extern "C" fn nca_table_set_up(
-    fields: &mut [u16],
-    numbers: &mut [u64],
-    levels: &mut [i32],
-    ancestors: &mut [u16],
-    tally: &mut [u16],
-    out: &mut [u16],
-) -> u16
-    ensures { λ r. ⌜ outcome (partsOf (now (fields .exit)) (now (numbers .exit)) (now (levels .exit)) (now (ancestors .exit))) (now (tally .exit)) (reply r (now (out .exit))) ≡ setUpCall (partsOf (now (fields .entry)) (now (numbers .entry)) (now (levels .entry)) (now (ancestors .entry))) (now (tally .entry)) (now (out .entry)) ⌝ }
-{
-    if out.len() != MADE_OUT {
-        return number_of(Refusal::Misfit);
-    }
-    let made = set_up::set_up(fields, numbers, levels, ancestors, tally);
-    reply_made(made, out)
-}
 
 // A first node, which begins a tree. Out: count, node, rows renumbered, head.
 #[no_mangle]
@@ -115,40 +90,4 @@ pub extern "C" fn nca_table_add_root(
     let state = State { count: count };
     let grown = growth::add_root_over(fields, numbers, levels, ancestors, tally, scratch, state, x);
     reply_grown(grown, out)
-}
-
-// The tree of root x under v, a node of another tree; x takes the label. Out: rows renumbered, head.
-#[no_mangle]
-pub extern "C" fn nca_table_link(
-    fields: &mut [u16],
-    numbers: &mut [u64],
-    levels: &mut [i32],
-    ancestors: &mut [u16],
-    tally: &mut [u16],
-    scratch: &mut [u16],
-    count: u16,
-    x: u16,
-    v: u16,
-    label: u16,
-    out: &mut [u32],
-) -> u16
-    ensures { λ r. ⌜ LinkCall (partsOf (now (fields .entry)) (now (numbers .entry)) (now (levels .entry)) (now (ancestors .entry))) (now (tally .entry)) (now (out .entry)) (now (scratch .entry)) (stateOf count) x v label (now (scratch .exit)) (outcome (partsOf (now (fields .exit)) (now (numbers .exit)) (now (levels .exit)) (now (ancestors .exit))) (now (tally .exit)) (reply r (now (out .exit)))) ⌝ }
-{
-    if out.len() != LINKED_OUT {
-        return number_of(Refusal::Misfit);
-    }
-    let state = State { count: count };
-    let linked = link::link(
-        fields,
-        numbers,
-        levels,
-        ancestors,
-        tally,
-        scratch,
-        state,
-        x,
-        v,
-        label,
-    );
-    reply_linked(linked, out)
 }

@@ -12,7 +12,7 @@ use Rattle.tally.specs.Count.{hasRoom, counted}
 use Rattle.growth_plan.specs.declared.row.Plan.{Plan}
 use Rattle.growth_plan.specs.declared.row.Planned.{Planned}
 use Rattle.growth_plan.specs.declared.row.Planned.the-variants.{Grow, Start, Refuse}
-use Rattle.renumber.specs.Count.{oneMore}
+use Rattle.counts.specs.Count.{oneMore}
 use Rattle.join.specs.Lone.{loneNumbers, loneEntries}
 use Rattle.growth_store.specs.Store.{Stored, planStored}
 use Rattle.growth_store.specs.Start.{startedFields}

@@ -4,6 +4,7 @@ use mathlib.Core.List.{List}
 use Prim.Native.Nat.{ℕ, zero, suc}
 use lib.Dec.{eqb}
 use Rattle.laws.specs.Test.{pick}
+use Rattle.counts.specs.Count.{oneMore}
 use Rattle.tree_laws.specs.Ancestor.{none}
 use Rattle.span.specs.Numbers.{outgrown}
 use Rattle.layer.specs.Layout.{upperPlace, sizePlace, setSizePlace}
@@ -11,7 +12,6 @@ use Rattle.layer.specs.Row.{fieldAt, rowOf}
 use Rattle.layer.specs.Write.{withField}
 use Rattle.join.specs.declared.chain.Top.{Top}
 use Rattle.join.specs.declared.chain.Top.the-variants.{At, Corrupt}
-use Rattle.renumber.specs.Count.{oneMore}
 use Rattle.layer.specs.Checked.{isRow}
 
 -- row u, with one row more below it, has outgrown its set size

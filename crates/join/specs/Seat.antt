@@ -4,6 +4,7 @@ use mathlib.Core.List.{List}
 use Prim.Native.Nat.{ℕ}
 use lib.Dec.{eqb}
 use Rattle.laws.specs.Test.{pick}
+use Rattle.counts.specs.Count.{oneMore, stepsOf}
 use Rattle.tree_laws.specs.Ancestor.{none}
 use Rattle.span.specs.Numbers.{withinLimit}
 use Rattle.layer.specs.Layout.{parentPlace, lastPlace, upperPlace, pathPlace, sizePlace, depthPlace, nextFreePlace}
@@ -13,7 +14,6 @@ use Rattle.renumber.specs.declared.Head.{Head}
 use Rattle.join.specs.declared.seat.Seat.{Seat}
 use Rattle.join.specs.declared.seat.Seating.{Seating}
 use Rattle.join.specs.declared.seat.Seating.the-variants.{At, Corrupt}
-use Rattle.renumber.specs.Count.{oneMore, stepsOf}
 use Rattle.layer.specs.Checked.{isRow}
 use Rattle.join.specs.Chain.{topFrom, onTop}
 use Rattle.join.specs.CheckWalk.{checkWalk}

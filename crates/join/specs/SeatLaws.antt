@@ -3,12 +3,12 @@ use mathlib.Core.Path.{_≡_}
 use mathlib.Core.Bool.{true, false}
 use mathlib.Core.List.{List}
 use Prim.Native.Nat.{ℕ}
+use Rattle.counts.specs.Count.{oneMore}
 use Rattle.tree_laws.specs.Ancestor.{none}
 use Rattle.layer.specs.Layout.{depthPlace}
 use Rattle.layer.specs.Row.{fieldAt, rowOf}
 use Rattle.join.specs.declared.chain.Top.the-variants.{At as Found, Corrupt as Broken}
 use Rattle.join.specs.declared.seat.Seating.the-variants.{At, Corrupt}
-use Rattle.renumber.specs.Count.{oneMore}
 use Rattle.layer.specs.Checked.{isRow}
 use Rattle.join.specs.Chain.{topFrom}
 use Rattle.join.specs.Copied.{copiesLinks}

@@ -1,11 +1,11 @@
 // The chain of a new leaf: its upper rows, from the lowest up.
+use counts::one_more;
 use layer::layout::NONE;
 use layer::layout::SET_SIZE;
 use layer::layout::SIZE;
 use layer::layout::UPPER;
 use layer::row::field;
 use layer::write::put_field;
-use renumber::count::one_more;
 use row_check::is_row;
 use span::Span;
 ghost use mathlib.Core.Path.{_≡_};

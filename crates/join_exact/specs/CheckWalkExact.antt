@@ -28,7 +28,7 @@ use Rattle.renumber_laws.specs.WalkedLaws.{Under}
 use Rattle.join.specs.declared.attach.Leaf.{Leaf}
 use Rattle.join.specs.declared.check_walk.Checking.{Checking}
 use Rattle.join.specs.Attach.{firstAfter, nextAfter, parentAfter}
-use Rattle.renumber.specs.Count.{stepsOf}
+use Rattle.counts.specs.Count.{stepsOf}
 use Rattle.join.specs.CheckWalk.{isReadable, entered, leftRow, checkTurn, checkWalk}
 use Rattle.renumber_exact.specs.Places.{rowOf, isDown}
 

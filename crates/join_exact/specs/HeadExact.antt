@@ -38,7 +38,7 @@ use Rattle.join_laws.specs.Trees.{OwnTrees, own-trees, stored, uppers}
 use Rattle.renumber_laws.specs.Renumbering.{Renumberable}
 use Rattle.join.specs.declared.chain.Top.the-variants.{At}
 use Rattle.renumber.specs.declared.Head.{Head as PlanHead}
-use Rattle.renumber.specs.Count.{oneMore}
+use Rattle.counts.specs.Count.{oneMore}
 use Rattle.join.specs.Chain.{outgrownAt, topFrom}
 use Rattle.join.specs.Seat.{oldHead, headOf}
 use Rattle.renumber_exact.specs.SizeWalkExact.{more-one}

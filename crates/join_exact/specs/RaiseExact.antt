@@ -10,7 +10,7 @@ use Rattle.tree_laws.specs.AncestorLaws.{cases, row-some, no-loop}
 use Rattle.layer.specs.Layout.{fieldStride, upperPlace, sizePlace}
 use Rattle.layer.specs.Row.{fieldAt}
 use Rattle.renumber_laws.specs.Column.{put, put-same, put-other}
-use Rattle.renumber.specs.Count.{oneMore}
+use Rattle.counts.specs.Count.{oneMore}
 use Rattle.join.specs.Chain.{raisedAt, raised}
 use Rattle.join.specs.ChainLaws.{raise-stop, raise-on}
 use Rattle.renumber_exact.specs.Columns.{Holds, holds-set, set-same, set-other}

@@ -36,7 +36,7 @@ use Rattle.join.specs.declared.seat.Seating.the-variants.{At}
 use Rattle.join.specs.Seat.{upperUnder, upperFor, leafUnder, headOf, isFirst, isSeated, isWhole, seatOf}
 use Rattle.join.specs.SeatLaws.{seated, on-top}
 use Rattle.join.specs.Store.{joinedAt}
-use Rattle.renumber.specs.Count.{oneMore}
+use Rattle.counts.specs.Count.{oneMore}
 use Rattle.renumber_exact.specs.SizeWalkExact.{more-one}
 use Rattle.renumber_laws.specs.Column.{put}
 use Rattle.renumber.specs.NumberWalk.{Written, walked}

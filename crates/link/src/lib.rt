@@ -1,14 +1,12 @@
 // A link: a whole tree, by its root, under a row of another one.
-use crate::check::Checked;
-use crate::check::check_link;
+use link_plan::Checked;
+use link_plan::check_link;
 use link_store::store_link;
 use table::refusal::Refusal;
 use table::state::State;
 use tally::count::move_one;
 ghost use Rattle.table.specs.Parts.{partsOf};
 ghost use Rattle.link.specs.Link.{LinkCall};
-
-mod check;
 
 // A link that was served: how many rows its joins renumbered, added up, and its head, the first row of the tree that received the linked one.
 pub struct Joined {

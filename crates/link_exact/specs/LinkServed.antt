@@ -43,12 +43,13 @@ use Rattle.link_laws.specs.Link.{Linkable, Linked, PlainLink}
 use Rattle.link_laws.specs.LinkFrame.{LinkFrame}
 use Rattle.link_laws.specs.LinkLaws.{link-keeps-rules, link-plain, link-pays}
 use Rattle.link_laws.specs.Order.{treeRows}
-use Rattle.link.specs.declared.check.Checked.{Checked}
-use Rattle.link.specs.declared.check.Trees.{Trees}
-use Rattle.link.specs.declared.check.Checked.the-variants.{Serve, Refuse}
-use Rattle.link.specs.CheckLaws.{check-scratch, check-x, check-v, check-label, check-not-root, check-same, check-inspect, trees-are, check-serve}
+use Rattle.link_plan.specs.declared.Checked.{Checked}
+use Rattle.link_plan.specs.declared.Trees.{Trees}
+use Rattle.link_plan.specs.declared.Checked.the-variants.{Serve, Refuse}
+use Rattle.link_plan.specs.Check.{trees, provided, linkWithin, linkChecked}
+use Rattle.link_plan.specs.CheckLaws.{check-scratch, check-x, check-v, check-label, check-not-root, check-same, check-inspect, trees-are, check-serve}
 use Rattle.link.specs.Outcome.{refusal, refused, linked as treeLinked}
-use Rattle.link.specs.Link.{Result, result, trees, provided, linkWithin, linkChecked, servedBy, linkedBy, linkBy}
+use Rattle.link.specs.Link.{Result, result, servedBy, linkedBy, linkBy}
 use Rattle.link_store.specs.JoinedTree.{joinedTree}
 use Rattle.link_exact.specs.TreeJoined.{after, renumbered, tree-linked, tree-fits, tree-frame, tree-joined}
 

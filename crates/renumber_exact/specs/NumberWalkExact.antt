@@ -31,7 +31,7 @@ use Rattle.renumber_laws.specs.RenumberingLaws.{sized-start}
 use Rattle.renumber_laws.specs.WalkedLaws.{Under, lastNumbers, last-placed, numbers-walked}
 use Rattle.renumber.specs.declared.place.Place.{Place}
 use Rattle.renumber.specs.declared.number_walk.Numbering.{Numbering}
-use Rattle.renumber.specs.Count.{stepsOf}
+use Rattle.counts.specs.Count.{stepsOf}
 use Rattle.renumber.specs.Place.{up as upOf, turn as turnTo}
 use Rattle.renumber.specs.NumberWalk.{
   lightOrLast,

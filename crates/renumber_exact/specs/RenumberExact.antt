@@ -19,7 +19,7 @@ use Rattle.renumber_laws.specs.Renumbering.{linksOf, sizesOf, numbersOf, withCo
 use Rattle.renumber_laws.specs.WalkedLaws.{lastNumbers, last-renumbered, last-unused}
 use Rattle.renumber_laws.specs.SameRowsLaws.{SameRow, kept-row, renumbered-same}
 use Rattle.renumber.specs.declared.Head.{Head}
-use Rattle.renumber.specs.Count.{stepsOf}
+use Rattle.counts.specs.Count.{stepsOf}
 use Rattle.renumber.specs.SizeWalk.{sizeWalk}
 use Rattle.renumber.specs.NumberWalk.{Written, written, Walked}
 use Rattle.renumber.specs.Renumber.{renumbered}

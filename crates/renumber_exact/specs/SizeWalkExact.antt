@@ -27,7 +27,7 @@ use Rattle.renumber_laws.specs.RenumberingLaws.{stored-tree}
 use Rattle.renumber_laws.specs.WalkedLaws.{Under, SizesWalked, sizes-walked}
 use Rattle.renumber.specs.declared.place.Place.{Place}
 use Rattle.renumber.specs.declared.size_walk.Sizing.{Sizing as At}
-use Rattle.renumber.specs.Count.{oneMore, stepsOf}
+use Rattle.counts.specs.Count.{oneMore, stepsOf}
 use Rattle.renumber.specs.Place.{arrival}
 use Rattle.renumber.specs.SizeWalk.{Sized, sizeEntered, heavyKept, sizeLeft, offeredTo, sizeTurn, sizeWalk}
 use Rattle.renumber_exact.specs.Columns.{Holds, holds-set, past, set-same, set-other, put-none}

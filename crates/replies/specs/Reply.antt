@@ -7,6 +7,7 @@ use lib.ListN.{length}
 use Rattle.laws.specs.Test.{bit, pick}
 use Rattle.table.specs.declared.refusal.Refusal.the-variants.{Misfit}
 use Rattle.table.specs.declared.state.State.{State}
+use Rattle.table.specs.Parts.{Parts}
 use Rattle.table.specs.Refusal.{numberOf}
 use Rattle.set_up.specs.Outcome.{Outcome as SetUpOutcome, refusal as notMade, empty}
 use Rattle.growth.specs.Outcome.{Outcome as GrowthOutcome, refusal as notGrown, node}
@@ -33,6 +34,15 @@ misfit out = reply (numberOf Misfit) out
 -- by whether the out slice has room for n values and no more
 abbrev pub onLength : {A B : Type 0} → ℕ → List A → B → B → B
 onLength n out served other = pick (eqb (length out) n) served other
+
+-- of a call that changes a table: the reply, and the parts and the tally afterwards
+pub record Outcome : Type 0 where
+  pub replied : Reply ℕ
+  pub parts : Parts
+  pub tally : List ℕ
+
+abbrev pub outcome : Parts → List ℕ → Reply ℕ → Outcome
+outcome t w r = record { replied = r; parts = t; tally = w }
 
 -- the count
 abbrev pub madeReply : List ℕ → SetUpOutcome → Reply ℕ

@@ -12,7 +12,7 @@ use Rattle.laws.specs.Tabulate.{tabulate}
 use Rattle.tally.specs.Fit.{capacityWith}
 use Rattle.tally.specs.Count.{hasRoom, withMost}
 use Rattle.set_up.specs.Blank.{blank, partsAfter, tallyAfter}
-use Rattle.renumber.specs.Count.{oneMore}
+use Rattle.counts.specs.Count.{oneMore}
 use Rattle.renumber.specs.Place.{turn, arrival}
 use Rattle.renumber.specs.SizeWalk.{sizeEntered, heavyKept, sizeLeft, offeredTo, sizeTurn, sizeWalk}
 use Rattle.renumber.specs.NumberWalk.{

@@ -12,9 +12,9 @@ use Rattle.lines.specs.Bytes.{bytesOf}
 use Rattle.lines.specs.Decimal.{digits, digitsUpTo}
 use Rattle.lines.specs.Line.{valuesOf, lineOf, headerLine, endLine}
 use Rattle.report.specs.Report.{report}
-use Rattle.transcript.specs.Session.{stepOf}
+use Rattle.turn.specs.Session.{stepOf}
+use Rattle.turn.specs.Asked.{call}
 use Rattle.transcript.specs.Transcript.{scratch, readFrom, readLog, transcript}
-use Rattle.transcript.specs.Asked.{call}
 use Rattle.transcript_exact.specs.Listing.{Item, whole, callsIn, repliesFrom, linesFrom, totalOf, Renumbering, listing}
 use Rattle.starred.specs.Engine.{engine}
 

@@ -1,6 +1,3 @@
-pub mod Asked
-pub mod Session
-pub mod SessionLaws
 pub mod Bounds
 pub mod Transcript
 pub mod PageLaws

@@ -12,8 +12,8 @@ use Rattle.log.specs.Outcome.{Outcome, end, refusal, field}
 use Rattle.log.specs.Bytes.{allZero}
 use Rattle.log.specs.Field.{listed, fits, values, wholeField as readWhole, bodyAt, nextAt, fieldAt}
 use Rattle.log.specs.FieldLaws.{next-passes, field-end, field-stays, field-moves}
-use Rattle.transcript.specs.Asked.{Asked, call, nothing, askedBy}
-use Rattle.transcript.specs.Session.{Session, stepBy, stepOf, wholeField}
+use Rattle.turn.specs.Asked.{Asked, call, nothing, askedBy}
+use Rattle.turn.specs.Session.{Session, stepBy, stepOf, wholeField}
 
 -- from the place of s on
 pub record Moves (log : List ℕ) (s after : Session) : Type 0 where

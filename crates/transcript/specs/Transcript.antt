@@ -10,7 +10,7 @@ use Rattle.layer.specs.Layout.{fieldStride, numberStride, entryStride}
 use Rattle.table.specs.Parts.{Parts, partsOf}
 use Rattle.tally.specs.Layout.{tallyLength}
 use Rattle.sequence.specs.Run.{start}
-use Rattle.transcript.specs.Session.{Session, stepOf}
+use Rattle.turn.specs.Session.{Session, stepOf}
 
 -- what the fields printed, and where the reading ended
 pub record Reached : Type 0 where

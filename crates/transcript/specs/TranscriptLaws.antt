@@ -6,10 +6,11 @@ use Prim.Native.Nat.{ℕ, zero, suc, _+_, _*_, _≤_, _<_}
 use native.Mathlib.Omega.{arith}
 use lib.ListN.{length, take}
 use Rattle.table.specs.Parts.{Parts}
-use Rattle.transcript.specs.declared.turn.Reading.{Reading}
-use Rattle.transcript.specs.declared.turn.Turn.{Turn}
-use Rattle.transcript.specs.Bounds.{Small, Grows, logLimit}
-use Rattle.transcript.specs.Session.{Session, Step, stepOf, sessionOf, written, turnOf}
+use Rattle.turn.specs.declared.Reading.{Reading}
+use Rattle.turn.specs.declared.Turn.{Turn}
+use Rattle.turn.specs.Bounds.{Small, Grows}
+use Rattle.turn.specs.Session.{Session, Step, stepOf, sessionOf, written, turnOf}
+use Rattle.transcript.specs.Bounds.{logLimit}
 use Rattle.transcript.specs.PlaceLaws.{Moves, step-moves, left, left-falls}
 use Rattle.transcript.specs.Transcript.{Reached, stopped, before, readFrom, readLog}
 

@@ -20,9 +20,9 @@ use Rattle.set_up.specs.declared.Made.the-variants.{Empty, Refused}
 use Rattle.set_up.specs.Outcome.{Outcome, refusal, empty, outcomeOf}
 use Rattle.set_up.specs.Blank.{setUp, partsAfter, tallyAfter}
 use Rattle.set_up.specs.BlankLaws.{set-up-served}
-use Rattle.transcript.specs.declared.turn.Reading.{Reading}
-use Rattle.transcript.specs.Session.{Session, sessionOf, written}
-use Rattle.transcript.specs.SessionLaws.{written-text}
+use Rattle.turn.specs.declared.Reading.{Reading}
+use Rattle.turn.specs.Session.{Session, sessionOf, written}
+use Rattle.turn.specs.SessionLaws.{written-text}
 use Rattle.transcript.specs.Transcript.{readLog, rows, lent, lentTally, scratch, opening, transcript}
 
 -- ---- set-up

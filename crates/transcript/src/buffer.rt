@@ -4,8 +4,8 @@ ghost use mathlib.Core.Path.{_≡_};
 ghost use mathlib.Core.List.{_++_};
 ghost use Prim.Native.Nat.{_+_, _≤_};
 ghost use lib.ListN.{length, take};
-ghost use Rattle.transcript.specs.Bounds.{Holds};
-ghost use Rattle.transcript.specs.Session.{written};
+ghost use Rattle.turn.specs.Bounds.{Holds};
+ghost use Rattle.turn.specs.Session.{written};
 
 // The text after the first `filled` bytes, and how many they are then.
 pub fn put_text(out: &mut [u8], filled: usize, text: Text) -> usize

@@ -1,6 +1,5 @@
 // All that the log program prints for a log: header, a line to each field that prints one, and the last line.
 mod buffer;
-mod turn;
 
 use buffer::put_text;
 use layer::layout::ENTRIES;
@@ -19,8 +18,8 @@ ghost use Prim.Native.Nat.{_+_, _*_, _≤_};
 ghost use lib.ListN.{length, take};
 ghost use Rattle.io.specs.Counts.{Counts};
 ghost use Rattle.table.specs.Parts.{partsOf};
+ghost use Rattle.turn.specs.Session.{sessionOf};
 ghost use Rattle.transcript.specs.Bounds.{Opens, Sized};
-ghost use Rattle.transcript.specs.Session.{sessionOf};
 ghost use Rattle.transcript.specs.Transcript.{readLog, transcript};
 
 // The rows of the program's table.

@@ -15,7 +15,7 @@ use Rattle.plain_list.specs.PlainStep.{plainOutcome, plainRun}
 use Rattle.sequence.specs.Calls.{Call, told, toldAll, Reply, refusal, node, linked, answered, same, passes}
 use Rattle.sequence.specs.Run.{rowsIn, headIn}
 use Rattle.report.specs.Printed.{Printed, printedRefusal, printed, letterOf, printedLine}
-use Rattle.transcript.specs.Asked.{Asked, call, nothing, askedBy}
+use Rattle.turn.specs.Asked.{Asked, call, nothing, askedBy}
 use Rattle.transcript_exact.specs.Level.{levelIn}
 use Rattle.transcript.specs.Transcript.{rows, scratch}
 

@@ -7,7 +7,7 @@ use lib.Dec.{eqb}
 use Rattle.laws.specs.Test.{pick}
 use Rattle.plain_list.specs.Joinings.{Linkless, end as none-asked, next as also}
 use Rattle.sequence.specs.Calls.{Call, leaf, root, question, alike, toldAll}
-use Rattle.transcript.specs.Asked.{Asked, call, nothing, askedBy}
+use Rattle.turn.specs.Asked.{Asked, call, nothing, askedBy}
 
 pub data Logged : Call → Type 0 where
   a-leaf : {v l : ℕ} {s : List ℕ} → Logged (leaf v l s)

@@ -15,8 +15,8 @@ use Rattle.sequence.specs.Calls.{Call}
 use Rattle.sequence.specs.Run.{Fast, step, run, totalIn}
 use Rattle.report.specs.Printed.{Printed, printedBy}
 use Rattle.report.specs.Report.{report}
-use Rattle.transcript.specs.Asked.{Asked, call, nothing, askedBy}
-use Rattle.transcript.specs.Session.{Session, wholeField, stepBy, stepOf}
+use Rattle.turn.specs.Asked.{Asked, call, nothing, askedBy}
+use Rattle.turn.specs.Session.{Session, wholeField, stepBy, stepOf}
 use Rattle.transcript.specs.PlaceLaws.{step-moves}
 use Rattle.transcript.specs.Transcript.{Reached, stopped, before, readFrom, scratch}
 use Rattle.transcript.specs.TranscriptLaws.{read-on, read-off}

@@ -2,7 +2,8 @@
 use native.Mathlib.Omega.{arith}
 use lib.ListN.{length}
 use Rattle.table.specs.Parts.{partsOf}
-use Rattle.link.specs.LinkLaws.{serve-ready, call-refused, call-served}
+use Rattle.link_plan.specs.ServeLaws.{serve-ready}
+use Rattle.link.specs.LinkLaws.{call-refused, call-served}
 use borrow.Author.Needs.{needs}
 use Rattle.link.proofs.link.Statement.{statement}
 use Rattle.link.proofs.link.Tie as tie

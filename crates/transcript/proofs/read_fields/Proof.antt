@@ -1,6 +1,6 @@
 -- `read_fields`: the lines so far and those to come make the whole; the place, or whether the reading goes on, falls short with each field.
 use mathlib.Core.Path.{_≡_, refl}
-use Rattle.transcript.specs.Session.{sessionOf}
+use Rattle.turn.specs.Session.{sessionOf}
 use Rattle.transcript.specs.PlaceLaws.{left}
 use Rattle.transcript.specs.TranscriptLaws.{Come, come-first, come-small, come-turn, turn-falls, come-last}
 use native.Mathlib.Omega.{arith}

@@ -4,7 +4,7 @@ use Prim.Native.Nat.{_+_, _*_, _≤_}
 use lib.ListN.{length}
 use native.Mathlib.Omega.{arith}
 use lib.Seq.{length-take-le}
-use Rattle.transcript.specs.SessionLaws.{text-holds}
+use Rattle.turn.specs.SessionLaws.{text-holds}
 use Rattle.transcript.specs.WholeLaws.{set-up-not-refused, set-up-state, opens, transcribed}
 use borrow.Author.Needs.{needs}
 use Rattle.transcript.proofs.transcribe.Statement.{statement}

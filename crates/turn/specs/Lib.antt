@@ -1,0 +1,4 @@
+pub mod Asked
+pub mod Session
+pub mod SessionLaws
+pub mod Bounds
