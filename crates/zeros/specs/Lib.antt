@@ -2,3 +2,4 @@ pub mod Zeros
 pub mod Passed
 pub mod WordZero
 pub mod ZeroLaws
+pub mod PassedLaws
