@@ -31,7 +31,7 @@ public:
         return grown(out);
     }
 
-    // A new root over the last one, or the first node.
+    // A new root over the last one, or the first node. It names no opening, as the baselines' name none.
     uint16_t add_root() {
         if (count == 0) {
             root = 0;
@@ -39,7 +39,7 @@ public:
         }
         uint16_t out[4];
         served(nca_table_add_root(fields.data(), fields.size(), numbers.data(), numbers.size(), levels.data(), levels.size(), ancestors.data(),
-                                  ancestors.size(), tally.data(), tally.size(), scratch.data(), scratch.size(), count, root, out, 4));
+                                  ancestors.size(), tally.data(), tally.size(), scratch.data(), scratch.size(), count, root, 0, 0, out, 4));
         root = out[1];
         return grown(out);
     }

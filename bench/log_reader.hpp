@@ -63,7 +63,11 @@ template <class Zeros> struct Reader {
         out[0] = log[at];
         switch (log[at]) {
         case 2:
-            return n == 0 ? 0 : 7;
+            if (n == 0) return 0;
+            if (n != 2) return 7;
+            out[1] = 1;
+            out[2] = number_at(body);
+            return 0;
         case 9:
             return Zeros::all_zero(body, n) ? 0 : 9;
         case 1:

@@ -1,4 +1,4 @@
-/* A C host of the library: plays a log through the table form and through byte trees, prints what each call gave, and checks the refusals of a host and of
+/* A C host of the library: plays logs through the table form and through byte trees, prints what each call gave, and checks the refusals of a host and of
  * the log reader. What it writes is held against client/expected. */
 #include "vundreli.h"
 
@@ -7,8 +7,8 @@
 
 enum { CAPACITY = 128 };
 
-/* The log of the requirements. */
-static const uint8_t LOG[] = {
+/* The log of the requirements: its new roots name no opening. */
+static const uint8_t OLDER[] = {
     2, 0, 0,
     1, 0, 4, 0, 0, 0, 7,
     1, 0, 4, 0, 1, 0, 9,
@@ -16,6 +16,22 @@ static const uint8_t LOG[] = {
     1, 0, 4, 0, 5, 0, 7,
     2, 0, 0,
     3, 0, 4, 0, 2, 0, 3,
+};
+
+/* New roots through openings, 0 and 10,000 among them, which are refused, and one that names none. The first node has no use for its opening. */
+static const uint8_t OPENINGS[] = {
+    2, 0, 2, 0, 0,
+    2, 0, 2, 0, 9,
+    3, 0, 4, 0, 0, 0, 0,
+    1, 0, 4, 0, 0, 0, 7,
+    2, 0, 2, 0, 12,
+    1, 0, 4, 0, 2, 0, 12,
+    2, 0, 2, 39, 16,
+    2, 0, 0,
+    2, 0, 2, 39, 15,
+    3, 0, 4, 0, 0, 0, 1,
+    3, 0, 4, 0, 1, 0, 3,
+    3, 0, 4, 0, 3, 0, 4,
 };
 
 static int failures = 0;
@@ -83,14 +99,20 @@ static unsigned table_add_leaf(unsigned parent, unsigned label, struct growth *g
     return table_grown(nca_table_add_leaf(PARTS, COUNTS, scratch, CAPACITY, table.count, (uint16_t)parent, (uint16_t)label, out, 4), out, g);
 }
 
-static unsigned table_add_root_over(unsigned x, struct growth *g) {
+static unsigned table_add_root_over(unsigned x, unsigned named, unsigned opening, struct growth *g) {
     uint16_t out[4];
-    return table_grown(nca_table_add_root(PARTS, COUNTS, scratch, CAPACITY, table.count, (uint16_t)x, out, 4), out, g);
+    return table_grown(
+        nca_table_add_root(PARTS, COUNTS, scratch, CAPACITY, table.count, (uint16_t)x, (uint16_t)named, (uint16_t)opening, out, 4), out, g);
 }
 
-/* The new root of a log: it names none. */
-static unsigned table_add_root(struct growth *g) {
-    unsigned refusal = table.count == 0 ? table_add_first(g) : table_add_root_over(table.root, g);
+/* The first node of a log: an opening is checked, though it has no use. */
+static unsigned table_add_log_first(unsigned named, unsigned opening, struct growth *g) {
+    return named != 0 && (opening < 1 || opening > 9999) ? NCA_BAD_LABEL : table_add_first(g);
+}
+
+/* The new root of a log: it does not say over which root it goes. */
+static unsigned table_add_root(unsigned named, unsigned opening, struct growth *g) {
+    unsigned refusal = table.count == 0 ? table_add_log_first(named, opening, g) : table_add_root_over(table.root, named, opening, g);
     if (refusal == 0)
         table.root = (uint16_t)g->node;
     return refusal;
@@ -141,9 +163,9 @@ static unsigned tree_add_leaf(unsigned parent, unsigned label, struct growth *g)
     return refusal;
 }
 
-static unsigned tree_add_root(struct growth *g) {
+static unsigned tree_add_root(unsigned named, unsigned opening, struct growth *g) {
     uint8_t out[6];
-    unsigned refusal = nca_add_root(tree, NCA_TREE_BYTES, out, 6);
+    unsigned refusal = nca_add_root(tree, NCA_TREE_BYTES, (uint16_t)named, (uint16_t)opening, out, 6);
     if (refusal == 0)
         tree_grown(out, g);
     return refusal;
@@ -174,7 +196,7 @@ static unsigned tree_tally(unsigned i) { return little_endian(tree + TALLY + 2 *
 struct form {
     unsigned (*set_up)(void);
     unsigned (*add_leaf)(unsigned parent, unsigned label, struct growth *g);
-    unsigned (*add_root)(struct growth *g);
+    unsigned (*add_root)(unsigned named, unsigned opening, struct growth *g);
     unsigned (*query)(unsigned x, unsigned y, struct answer *a);
     unsigned (*tally)(unsigned i);
 };
@@ -192,7 +214,7 @@ static unsigned play_field(const struct form *f, unsigned ordinal, const uint16_
     else if (field[0] == NCA_LEAF)
         refusal = f->add_leaf(field[1], field[2], &g);
     else
-        refusal = f->add_root(&g);
+        refusal = f->add_root(field[1], field[2], &g);
     if (refusal != 0)
         printf("%u R %u\n", ordinal, refusal);
     else if (field[0] == NCA_QUESTION)
@@ -202,12 +224,12 @@ static unsigned play_field(const struct form *f, unsigned ordinal, const uint16_
     return g.rows;
 }
 
-static void play(const struct form *f, unsigned (*count)(void)) {
+static void play(const struct form *f, const uint8_t *log, size_t log_len, unsigned (*count)(void)) {
     unsigned ordinal = 0, total = 0;
     uint16_t field[3];
     expect(f->set_up() == 0, "set-up is served");
     printf("echo %d\n", CAPACITY);
-    for (size_t at = 0; nca_log_field(LOG, sizeof LOG, at, field, 3) == 0 && field[0] != NCA_END; at = nca_log_next(LOG, sizeof LOG, at))
+    for (size_t at = 0; nca_log_field(log, log_len, at, field, 3) == 0 && field[0] != NCA_END; at = nca_log_next(log, log_len, at))
         total += play_field(f, ++ordinal, field);
     printf("end %u %u\n", count(), total);
     printf("most %u %u\n", f->tally(MOST), f->tally(f->tally(MOST)));
@@ -218,12 +240,14 @@ static void log_calls(void) {
     static const uint8_t log[] = {
         5, 0, 1, 0,
         2, 0, 1, 0,
+        2, 0, 3, 0, 7, 0,
         9, 0, 9, 0, 0, 0, 0, 0, 0, 0, 0, 1,
         9, 0, 9, 0, 0, 0, 0, 0, 0, 0, 0, 0,
         4, 0, 4, 0, 1, 1, 0,
         1, 0, 4, 0,
     };
-    static const uint16_t refusals[] = {NCA_BAD_TAG, NCA_BAD_LENGTH, NCA_DIRTY_FILLER, 0, 0, NCA_CUT_SHORT};
+    static const uint16_t refusals[] = {NCA_BAD_TAG, NCA_BAD_LENGTH, NCA_BAD_LENGTH, NCA_DIRTY_FILLER, 0, 0, NCA_CUT_SHORT};
+    static const uint8_t roots[] = {2, 0, 0, 2, 0, 2, 39, 16};
     uint16_t field[3] = {0, 0, 0};
     size_t at = 0;
     for (size_t i = 0; i < sizeof refusals / sizeof *refusals; i++) {
@@ -235,6 +259,9 @@ static void log_calls(void) {
     expect(nca_log_next(log, sizeof log, at) == at, "the reader stays where a field is cut short");
     expect(nca_log_field(log, sizeof log, 0, field, 2) == NCA_MISFIT, "an out slice of two places is a misfit");
     expect(nca_log_field(log, sizeof log, sizeof log, field, 3) == 0 && field[0] == NCA_END, "past the last byte is the end");
+    expect(nca_log_field(roots, sizeof roots, 0, field, 3) == 0 && field[0] == NCA_ROOT && field[1] == 0 && field[2] == 0, "a new root may name no opening");
+    expect(nca_log_field(roots, sizeof roots, 3, field, 3) == 0 && field[0] == NCA_ROOT && field[1] == 1 && field[2] == 10000, "the reader tells any opening");
+    expect(nca_log_field(roots, sizeof roots - 1, 3, field, 3) == NCA_CUT_SHORT, "an opening that is cut short is refused");
 }
 
 /* A path of as many nodes as there is room for, and one more. */
@@ -243,12 +270,14 @@ static void fill(const struct form *f) {
     struct answer a = {{0}};
     unsigned served = 0;
     expect(f->set_up() == 0, "set-up is served");
-    expect(f->add_root(&g) == 0, "the first node is served");
+    expect(f->add_root(0, 0, &g) == 0, "the first node is served");
     while (served < CAPACITY - 1 && f->add_leaf(served, 1 + served, &g) == 0)
         expect(g.node == ++served, "a leaf has the next number");
     expect(served == CAPACITY - 1, "128 nodes are served");
     expect(f->add_leaf(0, 1, &g) == NCA_FULL, "the 129th node is refused");
-    expect(f->add_root(&g) == NCA_FULL, "so is a root");
+    expect(f->add_root(0, 0, &g) == NCA_FULL && f->add_root(1, 7, &g) == NCA_FULL, "so is a root");
+    expect(f->add_root(1, 0, &g) == NCA_BAD_LABEL && f->add_root(2, 10000, &g) == NCA_BAD_LABEL, "an opening is looked at before that");
+    expect(f->add_root(0, 10000, &g) == NCA_FULL, "but not where none is named");
     expect(f->query(CAPACITY - 1, 64, &a) == 0 && a.values[0] == 64 && a.values[1] == 65 && a.values[3] == 63 && a.values[5] == 64, "a question on the full tree");
     expect(f->query(CAPACITY, 0, &a) == NCA_UNKNOWN_NODE, "an unknown node is refused");
     expect(f->add_leaf(0, 10000, &g) == NCA_BAD_LABEL, "a label of 10,000 is refused");
@@ -263,9 +292,11 @@ static unsigned tree_count(void) { return little_endian(tree); }
 static void table_calls(void) {
     uint16_t out[4] = {9, 9, 9, 9}, yes = 9;
     struct table before = table;
-    expect(nca_table_add_root(PARTS, COUNTS, scratch, CAPACITY, table.count, table.root, out, 3) == NCA_MISFIT, "a short out slice is a misfit");
-    expect(nca_table_add_root(PARTS, COUNTS, scratch, CAPACITY - 1, table.count, table.root, out, 4) == NCA_MISFIT, "a short scratch is a misfit");
-    expect(nca_table_add_root(PARTS, table.tally, NCA_TALLY_LEN - 1, scratch, CAPACITY, table.count, table.root, out, 4) == NCA_MISFIT, "a short tally is a misfit");
+    expect(nca_table_add_root(PARTS, COUNTS, scratch, CAPACITY, table.count, table.root, 0, 0, out, 3) == NCA_MISFIT, "a short out slice is a misfit");
+    expect(nca_table_add_root(PARTS, COUNTS, scratch, CAPACITY - 1, table.count, table.root, 1, 7, out, 4) == NCA_MISFIT, "a short scratch is a misfit");
+    expect(nca_table_add_root(PARTS, table.tally, NCA_TALLY_LEN - 1, scratch, CAPACITY, table.count, table.root, 1, 0, out, 4) == NCA_MISFIT, "a short tally is a misfit");
+    expect(nca_table_add_root(PARTS, COUNTS, scratch, CAPACITY, table.count, table.root, 1, 0, out, 4) == NCA_BAD_LABEL, "an opening of 0 is refused");
+    expect(nca_table_add_root(PARTS, COUNTS, scratch, CAPACITY, table.count, table.root, 2, 10000, out, 4) == NCA_BAD_LABEL, "so is one of 10,000");
     expect(out[0] == 9 && out[3] == 9 && memcmp(&before, &table, sizeof table) == 0, "a refusal changes nothing");
     expect(nca_table_alike(PARTS, table.count, 1, 1, &yes, 1) == 0 && yes == 1, "a node is alike to itself");
     expect(nca_table_alike(PARTS, table.count, 1, 2, &yes, 1) == 0 && yes == 0, "other labels are not alike");
@@ -280,6 +311,32 @@ static void table_calls(void) {
     table.tally[7] = 1;
 }
 
+/* A root that a new one goes over takes the opening: it is alike with a leaf of that label. Without an opening it keeps its label. */
+static void openings(void) {
+    struct growth g = {0, 0, 0, 0};
+    struct answer a = {{0}};
+    uint16_t yes = 9;
+    expect(table_set_up() == 0, "set-up is served");
+    expect(table_add_root_over(0, 1, 0, &g) == NCA_UNKNOWN_NODE, "a root goes over a node");
+    expect(table_add_first(&g) == 0 && g.node == 0, "a first node is served");
+    expect(table_add_root_over(0, 1, 7, &g) == 0 && g.node == 1 && table.tally[0] == 1 && table.tally[7] == 1, "a new root through 7 is served");
+    expect(table_add_leaf(1, 7, &g) == 0 && g.node == 2, "a leaf of label 7 is served");
+    expect(nca_table_alike(PARTS, table.count, 0, 2, &yes, 1) == 0 && yes == 1, "the old root and the leaf are alike");
+    expect(table.tally[7] == 2 && table.tally[MOST] == 7, "and are counted alike");
+    expect(table_add_root_over(0, 1, 10000, &g) == NCA_BAD_LABEL, "an opening is looked at before the root");
+    expect(table_add_root_over(0, 1, 5, &g) == NCA_NOT_ROOT && table_add_root_over(0, 0, 10000, &g) == NCA_NOT_ROOT, "a new root goes over a root");
+    expect(table_add_root_over(1, 0, 10000, &g) == 0 && g.node == 3 && table.tally[0] == 2, "a new root that names none is served");
+    expect(table_query(1, 2, &a) == 0 && a.values[0] == 1 && a.values[5] == 0, "its old root keeps its label");
+    expect(table_add_root_over(3, 65535, 9999, &g) == 0 && g.node == 4, "any number but 0 is a yes");
+    expect(table_query(0, 3, &a) == 0 && a.values[0] == 3 && a.values[5] == 9999, "the old root answers by its opening");
+    expect(nca_table_inspect(PARTS, COUNTS, scratch, CAPACITY, table.count, &yes, 1) == 0 && yes == 1, "the table passes inspection");
+    table.tally[7] = CAPACITY;
+    expect(table_add_root_over(4, 1, 7, &g) == NCA_CORRUPT, "an opening that would be carried too often is refused");
+    table.tally[7] = 2;
+    table.tally[0] = CAPACITY;
+    expect(table_add_root_over(4, 0, 7, &g) == NCA_CORRUPT && table_add_root_over(4, 1, 7, &g) == 0, "label 0 is not counted where an opening is");
+}
+
 /* Two trees in one table, and the second linked under a node of the first. */
 static void several_trees(void) {
     struct growth g = {0, 0, 0, 0};
@@ -292,8 +349,8 @@ static void several_trees(void) {
     expect(table_add_first(&g) == 0 && g.node == 2 && g.rows == 1 && g.head == 2 && g.level == 0, "a second tree is begun");
     expect(table_query(1, 2, &a) == NCA_OTHER_TREE, "nodes of two trees share none");
     expect(nca_table_alike(PARTS, table.count, 1, 2, &yes, 1) == NCA_OTHER_TREE && yes == 9, "nor are they compared");
-    expect(table_add_root_over(1, &g) == NCA_NOT_ROOT, "a new root goes over a root");
-    expect(table_add_root_over(2, &g) == 0 && g.node == 3 && g.level == -1, "also that of the second tree");
+    expect(table_add_root_over(1, 0, 0, &g) == NCA_NOT_ROOT, "a new root goes over a root");
+    expect(table_add_root_over(2, 0, 0, &g) == 0 && g.node == 3 && g.level == -1, "also that of the second tree");
     expect(table_query(2, 3, &a) == 0 && a.values[0] == 3, "which then answers");
     expect(table_link(2, 1, 5, out) == NCA_NOT_ROOT, "a node that is no root is not linked");
     expect(table_link(3, 2, 5, out) == NCA_SAME_TREE, "nor is a root under its own tree");
@@ -318,6 +375,10 @@ static void tree_calls(void) {
     expect(nca_add_leaf(tree, NCA_TREE_BYTES - 1, 0, 1, out, 6) == NCA_MISFIT, "a short tree is a misfit of a leaf");
     expect(nca_add_leaf(tree, NCA_TREE_BYTES, 0, 1, out, 5) == NCA_MISFIT, "a short out slice is a misfit");
     expect(nca_add_leaf(tree, NCA_TREE_BYTES, 0, 0, out, 6) == NCA_BAD_LABEL, "a label of 0 is refused");
+    expect(nca_add_root(tree, NCA_TREE_BYTES - 1, 1, 0, out, 6) == NCA_MISFIT, "a short tree is a misfit of a root");
+    expect(nca_add_root(tree, NCA_TREE_BYTES, 1, 0, out, 5) == NCA_MISFIT, "a short out slice is a misfit of a root");
+    expect(nca_add_root(tree, NCA_TREE_BYTES, 1, 0, out, 6) == NCA_BAD_LABEL, "an opening of 0 is refused");
+    expect(nca_add_root(tree, NCA_TREE_BYTES, 2, 10000, out, 6) == NCA_BAD_LABEL, "so is one of 10,000");
     expect(nca_query(tree, NCA_TREE_BYTES, 0, NCA_NONE, out, 16) == NCA_UNKNOWN_NODE, "an unknown node is refused");
     expect(out[0] == 9 && out[15] == 9 && memcmp(before, tree, sizeof tree) == 0, "a refusal changes nothing");
     tree[FIELDS + 2 * 10] = 200; /* a root that is no node, in row 0 */
@@ -325,6 +386,7 @@ static void tree_calls(void) {
     tree[FIELDS + 2 * 10] = before[FIELDS + 2 * 10];
     tree[TALLY + 2 * 7] = CAPACITY;
     expect(nca_add_leaf(tree, NCA_TREE_BYTES, 0, 7, out, 6) == NCA_CORRUPT, "so is a label that would be carried too often");
+    expect(nca_add_root(tree, NCA_TREE_BYTES, 1, 7, out, 6) == NCA_CORRUPT, "and such an opening");
     tree[TALLY + 2 * 7] = before[TALLY + 2 * 7];
 }
 
@@ -335,12 +397,13 @@ static void compare(void) {
     unsigned seed = 1;
     expect(table_set_up() == 0 && tree_set_up() == 0, "set-up is served");
     for (unsigned n = 0; n < CAPACITY + 2; n++) {
-        unsigned parent, label, x, y, r, q;
+        unsigned parent, label, named, x, y, r, q;
         seed = seed * 1103515245u + 12345u;
         parent = seed / 65536u % (n + 1);
         label = seed / 256u % 10002u;
-        r = n % 7 == 0 ? table_add_root(&g) : table_add_leaf(parent, label, &g);
-        q = n % 7 == 0 ? tree_add_root(&h) : tree_add_leaf(parent, label, &h);
+        named = seed / 512u % 3u;
+        r = n % 7 == 0 ? table_add_root(named, label, &g) : table_add_leaf(parent, label, &g);
+        q = n % 7 == 0 ? tree_add_root(named, label, &h) : tree_add_leaf(parent, label, &h);
         expect(r == q && memcmp(&g, &h, sizeof g) == 0, "both forms grow alike");
         x = seed / 4096u % (n + 1);
         y = seed / 1024u % (n + 1);
@@ -362,11 +425,14 @@ static void compare(void) {
 }
 
 int main(void) {
-    play(&TABLE, table_count);
+    play(&TABLE, OPENINGS, sizeof OPENINGS, table_count);
+    play(&TABLE, OLDER, sizeof OLDER, table_count);
     table_calls();
     fill(&TABLE);
+    openings();
     several_trees();
-    play(&TREE, tree_count);
+    play(&TREE, OPENINGS, sizeof OPENINGS, tree_count);
+    play(&TREE, OLDER, sizeof OLDER, tree_count);
     tree_calls();
     fill(&TREE);
     compare();

@@ -22,7 +22,7 @@ enum nca_refusal {
     NCA_FULL = 2,         /* growth with as many nodes as there is room for */
     NCA_MISFIT = 3,       /* the slices do not fit one capacity from 1 to 32,768, or a tally or an out slice is of another length */
     NCA_CORRUPT = 4,      /* the table or the tally is none that these calls left */
-    NCA_BAD_LABEL = 5,    /* a label outside 1 to 9,999 */
+    NCA_BAD_LABEL = 5,    /* a label, or an opening that is named, outside 1 to 9,999 */
     NCA_BAD_TAG = 6,      /* of a log's field: no such tag */
     NCA_BAD_LENGTH = 7,   /* a length that the tag does not have */
     NCA_CUT_SHORT = 8,    /* the log ends within the field */
@@ -35,7 +35,8 @@ enum nca_refusal {
 /* The table form. A table of capacity c is lent as four slices: fields (12 c), numbers (2 c), levels (c), ancestors (122 c).
  * It holds several trees, each begun by a first node. The count goes in by value, and the caller keeps the one that a growth writes to its out slice.
  * The tally (NCA_TALLY_LEN) is lent beside it to each call that makes, changes or inspects it: for each label from 0 to 9,999 how many nodes carry it, and
- * last the label that most nodes carry, the smallest of several. First nodes and new roots carry 0. Set-up clears the tally; growths and links keep it.
+ * last the label that most nodes carry, the smallest of several. First nodes and new roots carry 0; an old root takes the opening that the new
+ * one names. Set-up clears the tally; growths and links keep it.
  * scratch (c) is memory apart from the table; growth looks at its length only, inspection and a served link may leave anything in it.
  * The head of a growth is the row that headed the renumbering, that of a link the first row of the receiving stored tree. */
 
@@ -63,12 +64,14 @@ uint16_t nca_table_add_leaf(uint16_t *fields, size_t fields_len, uint64_t *numbe
                             uint16_t count, uint16_t parent, uint16_t label,
                             uint16_t *out, size_t out_len);
 
-/* A new root over x, the root of a tree. out (4): count, the new node, rows renumbered, head. */
+/* A new root over x, the root of a tree. out (4): count, the new node, rows renumbered, head.
+ * named: whether an opening is named, 0 for no, any other number for yes. Where it is, the opening becomes the label of x, and one outside 1 to 9,999 is
+ * refused; where not, x keeps its label and the opening's number is not looked at. The refusals in their order: 3, 1, 5, 10, 2, 4. */
 uint16_t nca_table_add_root(uint16_t *fields, size_t fields_len, uint64_t *numbers, size_t numbers_len,
                             int32_t *levels, size_t levels_len, uint16_t *ancestors, size_t ancestors_len,
                             uint16_t *tally, size_t tally_len,
                             const uint16_t *scratch, size_t scratch_len,
-                            uint16_t count, uint16_t x,
+                            uint16_t count, uint16_t x, uint16_t named, uint16_t opening,
                             uint16_t *out, size_t out_len);
 
 /* The whole tree of root x under v, a node of another tree; x takes the label. out (2): rows renumbered, head. */
@@ -109,8 +112,10 @@ uint16_t nca_set_up(uint8_t *tree, size_t tree_len);
 /* A new leaf. out (6 bytes): the new node (2), rows renumbered (2), head (2). */
 uint16_t nca_add_leaf(uint8_t *tree, size_t tree_len, uint16_t parent, uint16_t label, uint8_t *out, size_t out_len);
 
-/* A new root over the present one, or the first node. out (6 bytes): the new node (2), rows renumbered (2), head (2). */
-uint16_t nca_add_root(uint8_t *tree, size_t tree_len, uint8_t *out, size_t out_len);
+/* A new root over the present one, or the first node. out (6 bytes): the new node (2), rows renumbered (2), head (2).
+ * named and opening: as in the table form; on an empty tree an opening that is named is checked and otherwise unused. The refusals in their order:
+ * 3, 5, 2, 4. */
+uint16_t nca_add_root(uint8_t *tree, size_t tree_len, uint16_t named, uint16_t opening, uint8_t *out, size_t out_len);
 
 /* out (16 bytes): the nearest common ancestor (2), the branches towards x (2) and y (2), the distances of x (4) and y (4) from it, its label (2). */
 uint16_t nca_query(const uint8_t *tree, size_t tree_len, uint16_t x, uint16_t y, uint8_t *out, size_t out_len);
@@ -126,7 +131,8 @@ enum nca_tag {
     NCA_FILLER = 9
 };
 
-/* The field at a place of a log. out (3): its tag, and its values: parent and label of a leaf, x and y of a question and of alike, else 0 and 0.
+/* The field at a place of a log. out (3): its tag, and its values: parent and label of a leaf; named and opening of a new root, which are 1 and the opening
+ * where the field has length 2, 0 and 0 where it has length 0; x and y of a question and of alike; 0 and 0 of filler.
  * At the log's end, and at a place past it, all three are 0. */
 uint16_t nca_log_field(const uint8_t *log, size_t log_len, size_t at, uint16_t *out, size_t out_len);
 

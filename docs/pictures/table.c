@@ -4,11 +4,11 @@
 
 enum { CAPACITY = 16 };
 
-static uint16_t fields[12 * CAPACITY], ancestors[122 * CAPACITY], scratch[CAPACITY];
+static uint16_t fields[12 * CAPACITY], ancestors[122 * CAPACITY], tally[NCA_TALLY_LEN], scratch[CAPACITY];
 static uint64_t numbers[2 * CAPACITY];
 static int32_t levels[CAPACITY];
 
-#define PARTS fields, 12 * CAPACITY, numbers, 2 * CAPACITY, levels, CAPACITY, ancestors, 122 * CAPACITY
+#define PARTS fields, 12 * CAPACITY, numbers, 2 * CAPACITY, levels, CAPACITY, ancestors, 122 * CAPACITY, tally, NCA_TALLY_LEN
 
 /* Parents in order of arrival; ROOT stands for a new root. */
 #define ROOT 65535
@@ -20,7 +20,7 @@ int main(void) {
     if (nca_table_add_first(PARTS, scratch, CAPACITY, out[0], out, 4) != 0) return 1;
     root = out[1];
     for (unsigned i = 0; i < sizeof parents / sizeof parents[0]; i++) {
-        uint16_t refusal = parents[i] == ROOT ? nca_table_add_root(PARTS, scratch, CAPACITY, out[0], root, out, 4)
+        uint16_t refusal = parents[i] == ROOT ? nca_table_add_root(PARTS, scratch, CAPACITY, out[0], root, 0, 0, out, 4)
                                               : nca_table_add_leaf(PARTS, scratch, CAPACITY, out[0], parents[i], (uint16_t)(i + 2), out, 4);
         if (refusal != 0) return 1;
         if (parents[i] == ROOT) root = out[1];

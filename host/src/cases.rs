@@ -1,7 +1,7 @@
 //! Document 01's cases that are not starred, and parts that do not fit.
 
 use crate::checks::{check, equal};
-use crate::engine::{Table, ENTRIES, FIELDS, NUMBERS};
+use crate::engine::{Opening, Table, ENTRIES, FIELDS, NUMBERS};
 use crate::lent::Lent;
 use crate::tally;
 
@@ -24,7 +24,9 @@ pub fn capacities() -> String {
 pub fn refused(table: &mut Table, scratch: &mut Lent<u16>, (x, v, label): (u16, u16, u16), what: impl Fn() -> String) {
     equal(table.add_leaf(scratch, v, label).map(|_| ()), Err(3), || format!("a leaf with {}", what()));
     equal(table.add_first(scratch).map(|_| ()), Err(3), || format!("a first node with {}", what()));
-    equal(table.add_root(scratch, x).map(|_| ()), Err(3), || format!("a new root with {}", what()));
+    for opening in [Opening::NONE, Opening::of(label)] {
+        equal(table.add_root(scratch, x, opening).map(|_| ()), Err(3), || format!("a new root with {}", what()));
+    }
     equal(table.link(scratch, x, v, label), Err(3), || format!("a link with {}", what()));
     equal(table.inspect(scratch).map(|_| ()), Err(3), || format!("inspection with {}", what()));
     equal(table.set_up(), Err(3), || format!("set-up with {}", what()));
@@ -80,7 +82,9 @@ pub fn answers() -> String {
         if len != 4 {
             equal(table.add_first_to(Lent::marked(len), &scratch).map(|_| ()), Err(3), what);
             equal(table.add_leaf_to(Lent::marked(len), &scratch, 0, 1).map(|_| ()), Err(3), what);
-            equal(table.add_root_to(Lent::marked(len), &scratch, 0).map(|_| ()), Err(3), what);
+            for opening in [Opening::NONE, Opening::of(7), Opening::of(0)] {
+                equal(table.add_root_to(Lent::marked(len), &scratch, 0, opening).map(|_| ()), Err(3), what);
+            }
         }
         if len != 2 {
             equal(table.link_to(Lent::marked(len), &mut scratch, 0, 1, 1).map(|_| ()), Err(3), what);
@@ -89,23 +93,29 @@ pub fn answers() -> String {
     format!("{} lengths", lengths.len())
 }
 
-/// Labels 9,999 and 10,000; the 128th and 129th node.
+/// Labels and openings 9,999 and 10,000; the 128th and 129th node.
 pub fn limits() -> String {
     let (mut table, scratch) = (Table::new(128, true), Lent::new(128, 0));
     equal(table.set_up(), Ok(()), || "set-up".into());
     equal(table.add_leaf(&scratch, 0, 1).map(|g| g.node), Err(1), || "leaf of an empty tree".into());
-    equal(table.add_root(&scratch, 0).map(|g| g.node), Err(1), || "new root of an empty tree".into());
+    equal(table.add_root(&scratch, 0, Opening::NONE).map(|g| g.node), Err(1), || "new root of an empty tree".into());
+    equal(table.add_root(&scratch, 0, Opening::of(0)).map(|g| g.node), Err(1), || "opening 0 in an empty tree".into());
     equal(table.add_first(&scratch).map(|g| g.node), Ok(0), || "first node".into());
     equal(table.add_leaf(&scratch, 0, 9999).map(|g| g.node), Ok(1), || "label 9,999".into());
     equal(table.add_leaf(&scratch, 0, 10000).map(|g| g.node), Err(5), || "label 10,000".into());
     equal(table.add_leaf(&scratch, 0, 0).map(|g| g.node), Err(5), || "label 0".into());
-    for node in 2..128 {
+    equal(table.add_root(&scratch, 0, Opening::of(10000)).map(|g| g.node), Err(5), || "opening 10,000".into());
+    equal(table.add_root(&scratch, 0, Opening::of(0)).map(|g| g.node), Err(5), || "opening 0".into());
+    equal(table.add_root(&scratch, 0, Opening::of(9999)).map(|g| g.node), Ok(2), || "opening 9,999".into());
+    for node in 3..128 {
         equal(table.add_leaf(&scratch, node / 2, 1).map(|g| g.node), Ok(node), || format!("node {node}"));
     }
     equal(table.add_leaf(&scratch, 0, 1).map(|g| g.node), Err(2), || "129th node".into());
-    equal(table.add_root(&scratch, 0).map(|g| g.node), Err(2), || "129th node as root".into());
+    equal(table.add_root(&scratch, 2, Opening::NONE).map(|g| g.node), Err(2), || "129th node as root".into());
+    equal(table.add_root(&scratch, 2, Opening::of(1)).map(|g| g.node), Err(2), || "129th node as root through an opening".into());
+    equal(table.add_root(&scratch, 2, Opening::of(10000)).map(|g| g.node), Err(5), || "opening 10,000, before full".into());
     equal(table.add_first(&scratch).map(|g| g.node), Err(2), || "129th node as a first node".into());
-    equal(table.add_root(&scratch, 1).map(|g| g.node), Err(10), || "a new root over a leaf, before full".into());
+    equal(table.add_root(&scratch, 1, Opening::of(1)).map(|g| g.node), Err(10), || "a new root over a leaf, before full".into());
     check(table.count == 128, || "count".into());
     equal(table.query(5, 5), Ok([5, 5, 5, 0, 0, 1]), || "a node with itself".into());
     "1 table".into()

@@ -2,7 +2,8 @@
 //! inspection says what the naive rules say, questions and growths what the naive reading says; a table that passes answers as its plain tree does.
 
 use crate::checks::{check, equal};
-use crate::engine::{Grown, Reply, Table, ENTRIES, FIELDS, NONE, NUMBERS, ROOT, TREE};
+use crate::engine::{Grown, Opening, Reply, Table, ENTRIES, FIELDS, NONE, NUMBERS, ROOT, TREE};
+use crate::labels::Labels;
 use crate::lent::Lent;
 use crate::lists::{List, MIXES, SHAPES};
 use crate::places;
@@ -147,10 +148,10 @@ fn root(t: &Table, random: &mut Random) -> u16 {
 }
 
 /// A growth that is as it was read, and on a table that passes is served or refused as the plain list does it.
-fn grown(call: &str, label: u16, tables: (&Table, &Table), good: Option<Reply<u16>>, found: Reply<Grown>, read: Reply<Grown>) {
+fn grown(call: &str, labels: Labels, tables: (&Table, &Table), good: Option<Reply<u16>>, found: Reply<Grown>, read: Reply<Grown>) {
     let (before, after) = tables;
     equal(found, read, || format!("{call} on a damaged table"));
-    check(found.is_err() || tally::has_grown(before, after, label), || format!("the tally after {call} on a damaged table"));
+    check(found.is_err() || labels.are_left(before, after), || format!("labels and tally after {call} on a damaged table"));
     if let Some(expected) = good {
         equal(found.map(|g| g.node), expected, || format!("{call} on a table that passes"));
         check(found.is_err() || rules::passes(after), || format!("{call} broke the rules"));
@@ -166,17 +167,18 @@ fn grow(table: &Table, good: bool, random: &mut Random) {
     let (mut leaf, parent, label) = (table.clone(), node(table.count, random), [1, 7, 9999, 10000][random.below(4)]);
     let found = leaf.add_leaf(&scratch, parent, label);
     let expected = plain.clone().map(|mut p| p.add_leaf(length, parent, label));
-    grown("leaf", label, (table, &leaf), expected, found, Reading::of(table).add_leaf(length, parent, label));
+    grown("leaf", Labels::of(label), (table, &leaf), expected, found, Reading::of(table).add_leaf(length, parent, label));
 
     let mut first = table.clone();
     let found = first.add_first(&scratch);
     let expected = plain.clone().map(|mut p| p.add_first(length));
-    grown("first node", 0, (table, &first), expected, found, Reading::of(table).add_first(length));
+    grown("first node", Labels::of(0), (table, &first), expected, found, Reading::of(table).add_first(length));
 
-    let (mut over, x) = (table.clone(), root(table, random));
-    let found = over.add_root(&scratch, x);
-    let expected = plain.clone().map(|mut p| p.add_root(length, x));
-    grown("new root", 0, (table, &over), expected, found, Reading::of(table).add_root(length, x));
+    let (mut over, x, opening) = (table.clone(), root(table, random), Opening::any([1, 7, 9999, 10000][random.below(4)], random));
+    let found = over.add_root(&scratch, x, opening);
+    let expected = plain.clone().map(|mut p| p.add_root(length, x, opening.label()));
+    let read = Reading::of(table).add_root(length, x, opening.label());
+    grown(&format!("new root with {opening:?}"), Labels::over(x, opening), (table, &over), expected, found, read);
 }
 
 /// A link is served exactly where nothing else refuses it and inspection passes.

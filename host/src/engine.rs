@@ -101,6 +101,8 @@ mod raw {
             scratch_len: usize,
             count: u16,
             x: u16,
+            named: u16,
+            opening: u16,
             out: *mut u16,
             out_len: usize,
         ) -> u16;
@@ -200,6 +202,36 @@ pub struct Grown {
 pub struct Linked {
     pub rows: u32,
     pub head: u32,
+}
+
+/// What a new root is given: whether it names an opening, 0 for no and any other number for yes, and the opening's number.
+#[derive(Clone, Copy, Debug)]
+pub struct Opening {
+    pub named: u16,
+    pub number: u16,
+}
+
+impl Opening {
+    /// None is named.
+    pub const NONE: Opening = Opening { named: 0, number: 0 };
+
+    pub fn of(number: u16) -> Opening {
+        Opening { named: 1, number }
+    }
+
+    /// Mostly this label, by any yes; else none, with a number that must not be looked at.
+    pub fn any(label: u16, random: &mut Random) -> Opening {
+        if random.one_in(3) {
+            Opening { named: 0, number: [label, 0, 10000, 65535][random.below(4)] }
+        } else {
+            Opening { named: [1, 2, 256, 65535][random.below(4)], number: label }
+        }
+    }
+
+    /// The opening that is named.
+    pub fn label(self) -> Option<u16> {
+        (self.named != 0).then_some(self.number)
+    }
 }
 
 /// How many places the out slices of growths and links have.
@@ -337,16 +369,17 @@ impl Table {
     }
 
     /// A new root over x.
-    pub fn add_root(&mut self, scratch: &Lent<u16>, x: u16) -> Reply<Grown> {
-        self.add_root_to(Lent::marked(GROWN), scratch, x)
+    pub fn add_root(&mut self, scratch: &Lent<u16>, x: u16, opening: Opening) -> Reply<Grown> {
+        self.add_root_to(Lent::marked(GROWN), scratch, x, opening)
     }
 
     /// A new root that answers to a slice of any length.
-    pub fn add_root_to(&mut self, mut out: Lent<u16>, scratch: &Lent<u16>, x: u16) -> Reply<Grown> {
+    pub fn add_root_to(&mut self, mut out: Lent<u16>, scratch: &Lent<u16>, x: u16, opening: Opening) -> Reply<Grown> {
         let (before, kept) = (self.copy(), self.watched.then(|| scratch.clone()));
         let s = scratch.part();
         let o = out.part_mut();
-        let code = lend_mut!(nca_table_add_root, self, s.as_ptr(), s.len(), self.count, x, o.as_mut_ptr(), o.len());
+        let Opening { named, number } = opening;
+        let code = lend_mut!(nca_table_add_root, self, s.as_ptr(), s.len(), self.count, x, named, number, o.as_mut_ptr(), o.len());
         self.grown("new root", code, before, scratch, kept, &out)
     }
 

@@ -1,5 +1,5 @@
-//! The log reader (include/vundreli.h) against one written apart: at every place of good and damaged logs, and on filler of many lengths, clean and
-//! with bytes that are not zero.
+//! The log reader (include/vundreli.h) against one written apart: at every place of good and damaged logs, on filler of many lengths, clean and
+//! with bytes that are not zero, and on new roots of many lengths.
 
 use crate::checks::{check, equal};
 use crate::lent::Lent;
@@ -51,6 +51,7 @@ fn naive(log: &[u8], at: usize) -> (Field, usize) {
     let field = match (rest[0], body.len()) {
         (tag @ (1 | 3 | 4), 4) => Ok([tag.into(), number(0), number(2)]),
         (2, 0) => Ok([2, 0, 0]),
+        (2, 2) => Ok([2, 1, number(0)]),
         (1..=4, _) => Err(7),
         (9, _) if body.iter().all(|b| *b == 0) => Ok([9, 0, 0]),
         (9, _) => Err(9),
@@ -139,4 +140,35 @@ pub fn filler() -> String {
     short();
     longest();
     format!("lengths 0 to 39 and {LONGEST}")
+}
+
+/// A log with a new root of this length at a place, and bytes that are not zero about it. The first two of its body, or those past it, are the opening's.
+fn root_at(at: usize, length: usize, opening: u16) -> Lent<u8> {
+    let mut bytes = vec![0xFF; at];
+    bytes.extend([2, (length / 256) as u8, (length % 256) as u8]);
+    bytes.extend(opening.to_be_bytes());
+    bytes.resize(at + 3 + length.max(2) + 9, 0xFF);
+    lent(&bytes)
+}
+
+/// Lengths 0 to 5, and others with a 0 or a 2 in one of their bytes: only 0 and 2 are served. The reader tells every opening, and leaves it to a table to
+/// refuse one; cut short, the field is refused by 8.
+pub fn roots() -> String {
+    let lengths = [0, 1, 2, 3, 4, 5, 255, 256, 258, 512, 514, LONGEST];
+    for (length, at) in lengths.into_iter().flat_map(|length| (0..8).map(move |at| (length, at))) {
+        let field = match length {
+            0 => Ok([2, 0, 0]),
+            2 => Ok([2, 1, 9999]),
+            _ => Err(7),
+        };
+        let log = root_at(at, length, 9999);
+        equal(read(&log, at), (field, at + 3 + length), || format!("a new root of length {length} at {at}"));
+        for end in at + 1..at + 3 + length.min(8) {
+            equal(read(&lent(&log.part()[..end]), at), (Err(8), at), || format!("a new root of length {length} at {at}, cut at {end}"));
+        }
+    }
+    for opening in 0..=65_535 {
+        equal(read(&root_at(1, 2, opening), 1), (Ok([2, 1, opening]), 6), || format!("a new root through {opening}"));
+    }
+    format!("{} lengths and every opening", lengths.len())
 }

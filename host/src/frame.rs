@@ -1,13 +1,16 @@
 //! What stays as it was (document 02, M-101). After a served growth every row other than the head and those below it is unchanged in every number, but for
-//! six named exceptions; after a served link so is every row of other trees; after a refused call all is. Of the tally a growth changes its
-//! label's entry and a link two, and the last is found anew. The parts are compared over their whole length,
-//! the rows not in use and the spare places among them, which hold anything here. The head answered is the one that document 01's rule gives.
+//! seven named exceptions; after a served link so is every row of other trees; after a refused call all is. Of labels a growth changes the new row's and,
+//! where it names an opening, the old root's; of the tally it changes one entry and a link two, and the last is found anew. The parts are compared over
+//! their whole length, the rows not in use and the spare places among them, which hold anything here. The head answered is the one that document 01's rule
+//! gives.
 //! At capacities to 1,024 every call is looked at, above that each link and one growth in so many, since a look goes over the whole table.
 
 use crate::checks::{check, equal};
 use crate::engine::{
-    Grown, Linked, Reply, Table, ENTRIES, FIELDS, FIRST, LAST, NEXT, NEXT_FREE, NONE, NUMBERS, PARENT, PATH, ROOT, SET_SIZE, SIZE, UPPER,
+    Grown, Linked, Opening, Reply, Table, ENTRIES, FIELDS, FIRST, LABEL, LAST, NEXT, NEXT_FREE, NONE, NUMBERS, PARENT, PATH, ROOT,
+    SET_SIZE, SIZE, UPPER,
 };
+use crate::labels::Labels;
 use crate::lent::Lent;
 use crate::lists::{Mix, Shape, MIXES, SHAPES};
 use crate::random::Random;
@@ -41,13 +44,16 @@ enum Exception {
     First,
     Last,
     Next,
+    Label,
 }
+
+const EXCEPTIONS: usize = 7;
 
 #[derive(Clone, Copy, Debug)]
 enum Growth {
     First,
     Leaf(u16, u16),
-    Root(u16),
+    Root(u16, Opening),
 }
 
 fn field(t: &Table, v: u16, k: usize) -> u16 {
@@ -110,15 +116,24 @@ impl Growth {
     fn parent(self) -> u16 {
         match self {
             Growth::First => NONE,
-            Growth::Leaf(v, _) | Growth::Root(v) => v,
+            Growth::Leaf(v, _) | Growth::Root(v, _) => v,
         }
     }
 
-    /// The label of the new row.
-    fn label(self) -> u16 {
+    fn is_root(self) -> bool {
+        matches!(self, Growth::Root(..))
+    }
+
+    /// Whether the stored parent, an old root, takes an opening.
+    fn names_opening(self) -> bool {
+        matches!(self, Growth::Root(_, opening) if opening.label().is_some())
+    }
+
+    fn labels(self) -> Labels {
         match self {
-            Growth::Leaf(_, label) => label,
-            _ => 0,
+            Growth::First => Labels::of(0),
+            Growth::Leaf(_, label) => Labels::of(label),
+            Growth::Root(x, opening) => Labels::over(x, opening),
         }
     }
 
@@ -126,7 +141,7 @@ impl Growth {
         match self {
             Growth::First => table.add_first(scratch),
             Growth::Leaf(parent, label) => table.add_leaf(scratch, parent, label),
-            Growth::Root(x) => table.add_root(scratch, x),
+            Growth::Root(x, opening) => table.add_root(scratch, x, opening),
         }
     }
 
@@ -167,11 +182,12 @@ impl Served<'_> {
         let is_child = v < self.after.count && parent != NONE && field(self.after, v, PARENT) == parent;
         match place {
             (Part::Fields, SIZE) if self.chain.contains(&v) => Some(Exception::Size),
-            (Part::Fields, ROOT) if matches!(self.growth, Growth::Root(_)) && v == self.first => Some(Exception::Root),
+            (Part::Fields, ROOT) if self.growth.is_root() && v == self.first => Some(Exception::Root),
             (Part::Numbers, NEXT_FREE) if self.chain.first() == Some(&v) => Some(Exception::NextFree),
             (Part::Fields, FIRST) if is_parent => Some(Exception::First),
             (Part::Fields, LAST) if is_parent => Some(Exception::Last),
             (Part::Fields, NEXT) if is_child => Some(Exception::Next),
+            (Part::Fields, LABEL) if is_parent && self.growth.names_opening() => Some(Exception::Label),
             _ => None,
         }
     }
@@ -188,7 +204,9 @@ struct Met {
     /// Heads that are neither the new row nor row 0.
     between: usize,
     /// Changes outside the head, by exception.
-    exceptions: [usize; 6],
+    exceptions: [usize; EXCEPTIONS],
+    /// New roots that name no opening and have their old root outside the head, which keeps its label.
+    kept: usize,
 }
 
 impl Met {
@@ -197,7 +215,7 @@ impl Met {
         let what = |say: String| format!("{growth:?} on {} rows at capacity {}: {say}", before.count, capacity(before));
         equal((grown.node, after.count), (before.count, before.count + 1), || what("the new row".into()));
         equal(grown.head, growth.head(before), || what("the head".into()));
-        check(tally::has_grown(before, after, growth.label()), || what("the tally".into()));
+        check(growth.labels().are_left(before, after), || what("labels and tally".into()));
         let (below, served) = (below(after, grown.head), Served::of(growth, after, grown));
         check(below[grown.node as usize], || what("the new row is not below the head".into()));
         equal(below.iter().filter(|b| **b).count(), grown.rows as usize, || what("rows below the head".into()));
@@ -212,6 +230,7 @@ impl Met {
         }
         self.growths += 1;
         self.between += (grown.head != grown.node && grown.head != 0) as usize;
+        self.kept += (growth.is_root() && !growth.names_opening() && !below[growth.parent() as usize]) as usize;
     }
 
     /// A served link: the head, and every number of every row outside the two trees.
@@ -256,16 +275,17 @@ impl Met {
     }
 
     /// Of each exception whether it was met.
-    fn has_met(&self) -> [bool; 6] {
+    fn has_met(&self) -> [bool; EXCEPTIONS] {
         self.exceptions.map(|times| times > 0)
     }
 
     fn say(&self) -> String {
-        let [size, root, next_free, first, last, next] = self.exceptions;
+        let [size, root, next_free, first, last, next, label] = self.exceptions;
         format!(
             "{} growths, {} links and {} refused calls looked at, {} heads neither the new row nor row 0, {} rows in use outside a head; there \
-             changed {size} sizes, {root} roots, {next_free} next free numbers, {first} first, {last} last and {next} next links",
-            self.growths, self.links, self.refused, self.between, self.outside
+             changed {size} sizes, {root} roots, {next_free} next free numbers, {first} first, {last} last and {next} next links and {label} labels of \
+             old roots; {} old roots kept theirs",
+            self.growths, self.links, self.refused, self.between, self.outside, self.kept
         )
     }
 }
@@ -341,7 +361,7 @@ impl List {
         let growth = if count == 0 || random.one_in(self.mix.firsts) {
             Growth::First
         } else if random.one_in(self.mix.roots) {
-            Growth::Root(self.root(random))
+            Growth::Root(self.root(random), Opening::any(List::label(random), random))
         } else if random.one_in(self.mix.links) {
             return self.link(met, random);
         } else {
@@ -361,14 +381,15 @@ pub fn lists() -> String {
             (0..capacity * 2 + 6).for_each(|_| list.call(&mut met, true, &mut random));
         }
     }
-    equal(met.has_met(), [true, true, true, false, true, true], || "the exceptions that lists of calls meet".into());
+    equal(met.has_met(), [true, true, true, false, true, true, true], || "the exceptions that lists of calls meet".into());
+    check(met.kept > 0, || "no old root outside the head kept its label".into());
     check(met.between > met.growths / 4, || format!("{} heads of {} are neither the new row nor row 0", met.between, met.growths));
     met.say()
 }
 
 /// Lists at capacities to 32,768, and links once the table is full.
 pub fn large() -> String {
-    const MIX: Mix = Mix { firsts: 300, roots: 30, links: 2_000 };
+    const MIX: Mix = Mix { firsts: 300, roots: 10, links: 2_000 };
     let (mut random, mut met) = (Random::new(13), Met::default());
     for (shape, capacity) in SHAPES.into_iter().zip([32768, 5000, 20000, 32768, 32768, 5000]) {
         let mut list = List::new(capacity, shape, MIX, &mut random);
@@ -378,7 +399,7 @@ pub fn large() -> String {
         }
         (0..8).for_each(|_| list.link(&mut met, &mut random));
     }
-    equal(met.has_met(), [true, true, true, false, true, true], || "the exceptions that large tables meet".into());
+    equal(met.has_met(), [true, true, true, false, true, true, true], || "the exceptions that large tables meet".into());
     met.say()
 }
 
@@ -412,11 +433,14 @@ pub fn unreachable() -> String {
         met.grow(Growth::First, &mut table.clone(), &scratch, true);
         for x in 0..table.count {
             met.grow(Growth::Leaf(x, 1), &mut table.clone(), &scratch, true);
-            met.grow(Growth::Root(x), &mut table.clone(), &scratch, true);
+            for opening in [Opening::NONE, Opening::of(1)] {
+                met.grow(Growth::Root(x, opening), &mut table.clone(), &scratch, true);
+            }
             let v = random.below(table.count as usize) as u16;
             met.join((x, v, 1), &mut table.clone(), &mut scratch);
         }
     }
-    equal(met.has_met(), [true; 6], || "the exceptions that such tables meet".into());
+    equal(met.has_met(), [true; EXCEPTIONS], || "the exceptions that such tables meet".into());
+    check(met.kept > 0, || "no old root outside the head kept its label".into());
     format!("{passed} tables, {}", met.say())
 }

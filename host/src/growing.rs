@@ -21,7 +21,7 @@ impl Reading<'_> {
         self.capacity().and_then(|c| if (tally, scratch) == (tally::LENGTH, c) { Ok(c) } else { Err(3) })
     }
 
-    /// Last of all: the entry of the new node's label can grow.
+    /// Last of all: the entry of the label that the growth counts for can grow.
     fn is_countable(&mut self, capacity: usize, label: u16) -> Reply<()> {
         self.label = Some(label);
         let grown = tally::grown(self.table.tally.part(), capacity, label);
@@ -34,6 +34,11 @@ impl Reading<'_> {
         } else {
             Err(5)
         }
+    }
+
+    /// An opening that is named is a label.
+    fn has_opening(opening: Option<u16>) -> Reply<()> {
+        opening.map_or(Ok(()), Self::has_label)
     }
 
     fn has_room(&self, capacity: usize) -> Reply<()> {
@@ -75,30 +80,32 @@ impl Reading<'_> {
         }
     }
 
-    /// A new root over x.
-    pub fn add_root(&mut self, scratch: usize, x: u16) -> Reply<Grown> {
+    /// A new root over x. The label of x, which the opening takes the place of, is not looked at.
+    pub fn add_root(&mut self, scratch: usize, x: u16, opening: Option<u16>) -> Reply<Grown> {
         let capacity = self.fits(scratch)?;
         self.knows(&[x])?;
+        Self::has_opening(opening)?;
         self.has_count(capacity)?;
         self.tree_of_root(x)?;
         self.has_room(capacity)?;
         let grown = self.join(x, -1)?;
-        self.is_countable(capacity, 0)?;
+        self.is_countable(capacity, opening.unwrap_or(0))?;
         Ok(grown)
     }
 
-    /// Document 01's new root: over that of row 0's tree, or the first node.
-    pub fn add_root_first_tree(&mut self, scratch: usize) -> Reply<Grown> {
+    /// Document 01's new root: over that of row 0's tree, or the first node, which counts for label 0.
+    pub fn add_root_first_tree(&mut self, scratch: usize, opening: Option<u16>) -> Reply<Grown> {
+        let capacity = self.fits(scratch)?;
+        Self::has_opening(opening)?;
         if self.table.count == 0 {
             return self.add_first(scratch);
         }
-        let capacity = self.fits(scratch)?;
         self.has_room(capacity)?;
         self.has_count(capacity)?;
         let tree = self.tree(0)?;
         let root = self.root(tree)?;
         let grown = self.join(root, -1)?;
-        self.is_countable(capacity, 0)?;
+        self.is_countable(capacity, opening.unwrap_or(0))?;
         Ok(grown)
     }
 

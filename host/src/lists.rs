@@ -3,7 +3,7 @@
 
 use crate::cases;
 use crate::checks::{check, equal};
-use crate::engine::{Grown, Reply, Table};
+use crate::engine::{Grown, Opening, Reply, Table};
 use crate::lent::Lent;
 use crate::plain::Plain;
 use crate::random::Random;
@@ -70,6 +70,8 @@ pub struct List {
     joinings: u64,
     /// Links that were served.
     links: usize,
+    /// New roots through openings that were served.
+    openings: usize,
 }
 
 impl List {
@@ -86,6 +88,7 @@ impl List {
             total: 0,
             joinings: 0,
             links: 0,
+            openings: 0,
         }
     }
 
@@ -161,9 +164,11 @@ impl List {
     }
 
     fn add_root(&mut self, random: &mut Random) {
-        let (scratch, x) = (self.lend(random), self.root(random));
-        let (found, expected) = (self.table.add_root(&scratch, x), self.plain.add_root(scratch.part().len(), x));
-        self.grown("new root", found, expected, random, |stored| stored.add_root(x));
+        let (scratch, x, opening) = (self.lend(random), self.root(random), Opening::any(List::label(random), random));
+        let found = self.table.add_root(&scratch, x, opening);
+        let expected = self.plain.add_root(scratch.part().len(), x, opening.label());
+        self.openings += (found.is_ok() && opening.label().is_some()) as usize;
+        self.grown(&format!("new root over {x} with {opening:?}"), found, expected, random, |stored| stored.add_root(x, opening.label()));
     }
 
     /// What a growth gave, against both models.
@@ -290,7 +295,7 @@ impl List {
 
 /// Small trees: every pair is asked, and the naive rules look at every table.
 pub fn small() -> String {
-    let (mut random, mut links) = (Random::new(1), 0);
+    let (mut random, mut links, mut openings) = (Random::new(1), 0, 0);
     for round in 0..480 {
         let capacity = 1 + round % 20;
         let mut list = List::new(capacity, SHAPES[round % 6], MIXES[round / 6 % 4], &mut random);
@@ -305,13 +310,14 @@ pub fn small() -> String {
             }
         }
         links += list.links;
+        openings += list.openings;
     }
-    format!("480 lists, {links} links")
+    format!("480 lists, {links} links, {openings} openings")
 }
 
 /// Lists at capacities between, the stored trees beside them.
 pub fn middle() -> String {
-    let (mut random, mut links) = (Random::new(2), 0);
+    let (mut random, mut links, mut openings) = (Random::new(2), 0, 0);
     for (round, capacity) in [40, 64, 100, 127, 128, 129, 200, 256, 500, 1000, 1024].into_iter().enumerate() {
         for shape in SHAPES {
             let mut list = List::new(capacity, shape, MIXES[(round + shape as usize) % 4], &mut random);
@@ -323,9 +329,10 @@ pub fn middle() -> String {
                 }
             }
             links += list.links;
+            openings += list.openings;
         }
     }
-    format!("66 lists, {links} links")
+    format!("66 lists, {links} links, {openings} openings")
 }
 
 /// Large capacities to the last row, new roots, first nodes and links among the leaves, and links once it is full.
@@ -335,7 +342,7 @@ pub fn large() -> String {
         Mix { firsts: 1000, roots: 50, links: 600 },
         Mix { firsts: 40, roots: 100_000, links: 100 },
     ];
-    let (mut random, mut most, mut links) = (Random::new(3), 0f64, 0);
+    let (mut random, mut most, mut links, mut openings) = (Random::new(3), 0f64, 0, 0);
     for (round, shape) in SHAPES.into_iter().enumerate() {
         let capacity = [32768, 5000, 32768, 20000, 32768, 32768][round];
         let mut list = List::new(capacity, shape, LARGE[round % 3], &mut random);
@@ -354,8 +361,9 @@ pub fn large() -> String {
         (0..2000).for_each(|_| list.ask(&mut random));
         most = most.max(list.total as f64 / list.joinings as f64);
         links += list.links;
+        openings += list.openings;
     }
-    format!("6 lists, {links} links, at most {most:.1} rows renumbered for each joining")
+    format!("6 lists, {links} links, {openings} openings, at most {most:.1} rows renumbered for each joining")
 }
 
 /// Two trees that fill a table of 32,768 rows, the second linked under the last node of the first.

@@ -1,9 +1,11 @@
-//! The log program on good and damaged logs, against a reader and a printer written apart, and on written logs (host/vectors/logs.txt says how).
+//! The log program on good and damaged logs, against a reader and a printer written apart, on written logs (host/vectors/logs.txt says how), and on the sample
+//! logs of docs/samples.
 
 use std::io::Write;
 use std::process::{Command, Stdio};
 
 use crate::checks::equal;
+use crate::engine::Grown;
 use crate::plain::Plain;
 use crate::random::Random;
 use crate::stored::Stored;
@@ -14,6 +16,12 @@ const LOGS: usize = 1_500;
 const PROGRAM: &str = "target/bin/echo";
 
 const WRITTEN: &str = include_str!("../vectors/logs.txt");
+
+/// A log whose new roots name no opening, one whose do, and what is printed for each.
+const SAMPLES: [(&str, &[u8], &str); 2] = [
+    ("older", include_bytes!("../../docs/samples/older.log"), include_str!("../../docs/samples/older.txt")),
+    ("openings", include_bytes!("../../docs/samples/openings.log"), include_str!("../../docs/samples/openings.txt")),
+];
 
 /// What document 01's program prints for a log.
 struct Printer {
@@ -30,14 +38,11 @@ impl Printer {
         self.text += "\n";
     }
 
-    fn grown(&mut self, ordinal: usize, letter: char, reply: Result<u16, u16>, parent: Option<u16>, label: u16) {
+    fn grown(&mut self, ordinal: usize, letter: char, reply: Result<u16, u16>, model: impl FnOnce(&mut Stored) -> Grown) {
         match reply {
             Err(code) => self.line(ordinal, 'R', &[i32::from(code)]),
             Ok(node) => {
-                let grown = match parent {
-                    None => self.stored.add_root_first_tree(),
-                    Some(parent) => self.stored.add_leaf(parent, label),
-                };
+                let grown = model(&mut self.stored);
                 self.total += u64::from(grown.rows);
                 let level = self.stored.rows[node as usize].level;
                 self.line(ordinal, letter, &[i32::from(node), level, i32::from(grown.rows), i32::from(grown.head)]);
@@ -50,11 +55,12 @@ impl Printer {
         match (tag, body.len()) {
             (1, 4) => {
                 let reply = self.plain.add_leaf(CAPACITY, number(0), number(2));
-                self.grown(ordinal, 'L', reply, Some(number(0)), number(2));
+                self.grown(ordinal, 'L', reply, |stored| stored.add_leaf(number(0), number(2)));
             }
-            (2, 0) => {
-                let reply = self.plain.add_root_first_tree(CAPACITY);
-                self.grown(ordinal, 'T', reply, None, 0);
+            (2, length @ (0 | 2)) => {
+                let opening = (length == 2).then(|| number(0));
+                let reply = self.plain.add_root_first_tree(CAPACITY, opening);
+                self.grown(ordinal, 'T', reply, |stored| stored.add_root_first_tree(opening));
             }
             (3, 4) => match self.plain.query(number(0), number(2)) {
                 Err(code) => self.line(ordinal, 'R', &[i32::from(code)]),
@@ -101,7 +107,8 @@ pub fn log(fields: usize, random: &mut Random) -> Vec<u8> {
         let kind = if nodes == 0 { 4 } else { random.below(9) };
         let (tag, body) = match kind {
             0..=3 => (1, [x.to_be_bytes(), label.to_be_bytes()].concat()),
-            4 => (2, Vec::new()),
+            4 if random.one_in(2) => (2, Vec::new()),
+            4 => (2, label.to_be_bytes().to_vec()),
             5 | 6 => (3, [x.to_be_bytes(), y.to_be_bytes()].concat()),
             7 => (4, [x.to_be_bytes(), y.to_be_bytes()].concat()),
             _ => (9, vec![0; random.below(6)]),
@@ -170,6 +177,15 @@ pub fn vectors() -> String {
         equal(run(&bytes), expected, || format!("log {name}"));
     }
     format!("{count} logs")
+}
+
+/// The sample logs, by the program and by the printer.
+pub fn samples() -> String {
+    for (name, bytes, expected) in SAMPLES {
+        equal(&*listing(bytes), expected, || format!("the printer on the sample log {name}"));
+        equal(&*run(bytes), expected, || format!("the sample log {name}"));
+    }
+    format!("{} logs", SAMPLES.len())
 }
 
 /// A new root, filler with these bytes of it set, and a leaf.

@@ -11,6 +11,7 @@ mod fields;
 mod frame;
 mod growing;
 mod hand;
+mod labels;
 mod lent;
 mod lists;
 mod logs;
@@ -30,12 +31,13 @@ mod vectors;
 use std::process::ExitCode;
 
 /// A group of tests, and what it says of itself beside its counts.
-const GROUPS: [(&str, fn() -> String); 25] = [
+const GROUPS: [(&str, fn() -> String); 29] = [
     ("capacities 0, 1, 32,768 and 32,769", cases::capacities),
     ("parts that do not fit", cases::misfits),
     ("answers of another length", cases::answers),
     ("labels and the last node", cases::limits),
     ("several trees by hand", hand::cases),
+    ("openings by hand", hand::openings),
     ("written lists of calls", vectors::lists),
     ("lists of calls at capacities to 20", lists::small),
     ("lists of calls at capacities to 1,024", lists::middle),
@@ -49,11 +51,14 @@ const GROUPS: [(&str, fn() -> String); 25] = [
     ("good tables by the naive reading", refusals::undamaged),
     ("which rows are read of damaged tables", refusals::damage),
     ("byte trees that do not fit", trees::misfits),
+    ("openings of a byte tree by hand", trees::openings),
     ("lists of calls on byte trees", trees::lists),
     ("damaged byte trees", trees::damaged),
     ("the log reader at every place", fields::places),
     ("the log reader on filler", fields::filler),
+    ("the log reader on new roots", fields::roots),
     ("written logs", logs::vectors),
+    ("sample logs", logs::samples),
     ("filler through the log program", logs::filler),
     ("good and damaged logs", logs::logs),
 ];

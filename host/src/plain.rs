@@ -92,6 +92,11 @@ impl Plain {
         }
     }
 
+    /// An opening that is named is a label.
+    fn has_opening(opening: Option<u16>) -> Reply<()> {
+        opening.map_or(Ok(()), Plain::has_label)
+    }
+
     /// A node more: its parent and label.
     fn add(&mut self, parent: u16, label: u16) -> Reply<u16> {
         if self.count() == self.capacity {
@@ -114,25 +119,28 @@ impl Plain {
         self.add(parent, label)
     }
 
-    /// A new root over x.
-    pub fn add_root(&mut self, scratch: usize, x: u16) -> Reply<u16> {
+    /// A new root over x, which takes the opening that is named.
+    pub fn add_root(&mut self, scratch: usize, x: u16, opening: Option<u16>) -> Reply<u16> {
         self.fits(scratch)?;
         self.knows(&[x])?;
+        Plain::has_opening(opening)?;
         if !self.is_root(x) {
             return Err(10);
         }
         let node = self.add(NONE, 0)?;
         self.parent[x as usize] = node;
+        self.label[x as usize] = opening.unwrap_or(self.label[x as usize]);
         Ok(node)
     }
 
-    /// Document 01's new root: over that of node 0, or the first node.
-    pub fn add_root_first_tree(&mut self, scratch: usize) -> Reply<u16> {
-        if self.count() == 0 {
-            self.add_first(scratch)
-        } else {
-            self.add_root(scratch, self.root_of(0))
+    /// Document 01's new root: over that of node 0, or the first node, which has no use for an opening.
+    pub fn add_root_first_tree(&mut self, scratch: usize, opening: Option<u16>) -> Reply<u16> {
+        if self.count() != 0 {
+            return self.add_root(scratch, self.root_of(0), opening);
         }
+        self.fits(scratch)?;
+        Plain::has_opening(opening)?;
+        self.add_first(scratch)
     }
 
     /// The tree of root x under v; how many nodes joined.

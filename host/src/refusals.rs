@@ -4,13 +4,13 @@
 use std::collections::BTreeMap;
 
 use crate::checks::{check, equal};
-use crate::engine::{Grown, Reply, Table, ENTRIES, FIELDS, NONE, NUMBERS, TREE};
+use crate::engine::{Grown, Opening, Reply, Table, ENTRIES, FIELDS, NONE, NUMBERS, TREE};
+use crate::labels::Labels;
 use crate::lent::Lent;
 use crate::lists::{List, MIXES, SHAPES};
 use crate::places::damaged;
 use crate::random::Random;
 use crate::reading::{Cause, Reading};
-use crate::tally;
 use crate::trees;
 
 const POOL: usize = 240;
@@ -21,13 +21,15 @@ const UNDAMAGED: usize = 120;
 const MOST: usize = 26;
 
 /// Refusals that each kind of call must have met, 0 where it was served.
-const KINDS: [(&str, &[u16]); 6] = [
+const KINDS: [(&str, &[u16]); 8] = [
     ("question", &[0, 1, 3, 4, 12]),
     ("alike", &[0, 1, 3, 4, 12]),
     ("first node", &[0, 2, 3, 4]),
     ("leaf", &[0, 1, 2, 3, 4, 5]),
     ("new root", &[0, 1, 2, 3, 4, 10]),
     ("new root of the first tree", &[0, 2, 4]),
+    ("new root through an opening", &[0, 1, 2, 3, 4, 5, 10]),
+    ("new root of the first tree through an opening", &[0, 2, 4, 5]),
 ];
 
 #[derive(Clone, Copy, Debug)]
@@ -36,8 +38,8 @@ enum Call {
     Alike(u16, u16),
     First,
     Leaf(u16, u16),
-    Root(u16),
-    RootOfFirstTree,
+    Root(u16, Opening),
+    RootOfFirstTree(Opening),
 }
 
 /// The values that a call answers.
@@ -54,25 +56,25 @@ impl Call {
             Call::Alike(..) => 1,
             Call::First => 2,
             Call::Leaf(..) => 3,
-            Call::Root(_) => 4,
-            Call::RootOfFirstTree => 5,
+            Call::Root(_, opening) => 4 + 2 * opening.label().is_some() as usize,
+            Call::RootOfFirstTree(opening) => 5 + 2 * opening.label().is_some() as usize,
         };
         KINDS[place].0
     }
 
-    /// What the engine says; the table stays as it is. Document 01's new root has only the form of bytes. A growth that is served leaves the tally that the
-    /// rule gives.
+    /// What the engine says; the table stays as it is. Document 01's new root has only the form of bytes. A growth that is served leaves the labels and the
+    /// tally that the rules give.
     fn found(self, before: &Table, scratch: &Lent<u16>) -> Reply<Values> {
         let mut table = before.clone();
-        let (label, found) = match self {
+        let (labels, found) = match self {
             Call::Question(x, y) => return table.query(x, y).map(Vec::from),
             Call::Alike(x, y) => return table.alike(x, y).map(|same| vec![same.into()]),
-            Call::RootOfFirstTree => return trees::add_root_to(&table).map(grown),
-            Call::First => (0, table.add_first(scratch)),
-            Call::Leaf(parent, label) => (label, table.add_leaf(scratch, parent, label)),
-            Call::Root(x) => (0, table.add_root(scratch, x)),
+            Call::RootOfFirstTree(opening) => return trees::add_root_to(&table, opening).map(grown),
+            Call::First => (Labels::of(0), table.add_first(scratch)),
+            Call::Leaf(parent, label) => (Labels::of(label), table.add_leaf(scratch, parent, label)),
+            Call::Root(x, opening) => (Labels::over(x, opening), table.add_root(scratch, x, opening)),
         };
-        check(found.is_err() || tally::has_grown(before, &table, label), || format!("the tally after {self:?}"));
+        check(found.is_err() || labels.are_left(before, &table), || format!("labels and tally after {self:?}"));
         found.map(grown)
     }
 
@@ -83,8 +85,8 @@ impl Call {
             Call::Alike(x, y) => reading.alike(x, y).map(|same| vec![same.into()]),
             Call::First => reading.add_first(scratch).map(grown),
             Call::Leaf(parent, label) => reading.add_leaf(scratch, parent, label).map(grown),
-            Call::Root(x) => reading.add_root(scratch, x).map(grown),
-            Call::RootOfFirstTree => reading.add_root_first_tree(scratch).map(grown),
+            Call::Root(x, opening) => reading.add_root(scratch, x, opening.label()).map(grown),
+            Call::RootOfFirstTree(opening) => reading.add_root_first_tree(scratch, opening.label()).map(grown),
         }
     }
 }
@@ -151,6 +153,15 @@ fn other(table: &Table, x: u16, peer: bool, random: &mut Random) -> u16 {
     y
 }
 
+/// A label whose entry of the tally damage often reaches, now and then one that is refused.
+fn label(random: &mut Random) -> u16 {
+    if random.one_in(24) {
+        [0, 10000][random.below(2)]
+    } else {
+        [1, 9999][random.below(2)]
+    }
+}
+
 /// Calls on a table and on what damage makes of it.
 fn calls(table: &Table, random: &mut Random) -> Vec<Call> {
     let mut calls = vec![Call::First];
@@ -159,14 +170,14 @@ fn calls(table: &Table, random: &mut Random) -> Vec<Call> {
         calls.push(Call::Question(x, other(table, x, random.one_in(4), random)));
     }
     for _ in 0..2 {
-        let label = if random.one_in(24) { [0, 10000][random.below(2)] } else { [1, 9999][random.below(2)] };
-        calls.push(Call::Leaf(node(table.count, random), label));
+        calls.push(Call::Leaf(node(table.count, random), label(random)));
     }
     let x = node(table.count, random);
     calls.push(Call::Alike(x, other(table, x, !random.one_in(4), random)));
-    calls.push(Call::Root(if x < table.count && !random.one_in(8) { table.root_of(x) } else { x }));
+    let over = if x < table.count && !random.one_in(8) { table.root_of(x) } else { x };
+    calls.push(Call::Root(over, Opening::any(label(random), random)));
     if table.levels.part().len() == trees::CAPACITY {
-        calls.push(Call::RootOfFirstTree);
+        calls.push(Call::RootOfFirstTree(Opening::any(label(random), random)));
     }
     calls
 }
@@ -191,10 +202,10 @@ fn scrambled(table: &Table, reading: &Reading, random: &mut Random) -> Table {
 /// One call on a damaged table, and on one that differs from it only in rows that are not read.
 fn run(call: Call, good: &Table, table: &Table, met: &mut Met, random: &mut Random) {
     let capacity = table.levels.part().len();
-    if matches!(call, Call::RootOfFirstTree) && Reading::of(table).fits(capacity) != Ok(trees::CAPACITY) {
+    if matches!(call, Call::RootOfFirstTree(_)) && Reading::of(table).fits(capacity) != Ok(trees::CAPACITY) {
         return;
     }
-    let longer = random.one_in(60) && !matches!(call, Call::RootOfFirstTree);
+    let longer = random.one_in(60) && !matches!(call, Call::RootOfFirstTree(_));
     let scratch = Lent::new(capacity + longer as usize, random.word() as u16);
     let mut reading = Reading::of(table);
     let expected = call.expected(&mut reading, scratch.part().len());
@@ -232,6 +243,9 @@ pub fn damage() -> String {
     )
 }
 
+/// No opening, one that is a label, and two that are none.
+const OPENINGS: [Option<u16>; 4] = [None, Some(2), Some(0), Some(10000)];
+
 /// On good tables the naive reading says what the plain list says, of every node and every two.
 pub fn undamaged() -> String {
     let mut random = Random::new(11);
@@ -242,12 +256,17 @@ pub fn undamaged() -> String {
         let (table, plain) = (&list.table, &list.plain);
         let node = |found: Reply<Grown>| found.map(|g| g.node);
         equal(node(Reading::of(table).add_first(capacity)), plain.clone().add_first(capacity), || "first node".into());
-        let over = node(Reading::of(table).add_root_first_tree(capacity));
-        equal(over, plain.clone().add_root_first_tree(capacity), || "new root of the first tree".into());
+        for opening in OPENINGS {
+            let over = node(Reading::of(table).add_root_first_tree(capacity, opening));
+            equal(over, plain.clone().add_root_first_tree(capacity, opening), || format!("new root of the first tree, {opening:?}"));
+        }
         for x in 0..=table.count {
             let leaf = node(Reading::of(table).add_leaf(capacity, x, 1));
             equal(leaf, plain.clone().add_leaf(capacity, x, 1), || format!("leaf under {x}"));
-            equal(node(Reading::of(table).add_root(capacity, x)), plain.clone().add_root(capacity, x), || format!("new root over {x}"));
+            for opening in OPENINGS {
+                let over = node(Reading::of(table).add_root(capacity, x, opening));
+                equal(over, plain.clone().add_root(capacity, x, opening), || format!("new root over {x}, {opening:?}"));
+            }
             for y in 0..=table.count {
                 equal(Reading::of(table).question(x, y), plain.query(x, y), || format!("question {x} {y}"));
                 equal(Reading::of(table).alike(x, y), plain.alike(x, y), || format!("alike {x} {y}"));

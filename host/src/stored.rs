@@ -101,21 +101,22 @@ impl Stored {
         self.grow(parent, label, level)
     }
 
-    /// A new root over x, stored as a leaf under it.
-    pub fn add_root(&mut self, x: u16) -> Grown {
+    /// A new root over x, stored as a leaf under it; x takes the opening that is named.
+    pub fn add_root(&mut self, x: u16, opening: Option<u16>) -> Grown {
         let level = self.row(x).level - 1;
         let first = self.first_row(x);
         let grown = self.grow(x, 0, level);
         self.rows[first as usize].root = grown.node;
+        self.rows[x as usize].label = opening.unwrap_or(self.row(x).label);
         grown
     }
 
     /// Document 01's new root.
-    pub fn add_root_first_tree(&mut self) -> Grown {
+    pub fn add_root_first_tree(&mut self, opening: Option<u16>) -> Grown {
         if self.rows.is_empty() {
             self.add_first()
         } else {
-            self.add_root(self.root_of(0))
+            self.add_root(self.root_of(0), opening)
         }
     }
 

@@ -40,7 +40,7 @@ pub fn of(t: &Table) -> Option<Vec<u16>> {
     labels.iter().all(|label| (*label as usize) < LABELS).then(|| count(&labels))
 }
 
-/// A tally after a node more of this label; refusal 4 where its entry is at the capacity or past it.
+/// A tally after a node more that counts for this label; refusal 4 where its entry is at the capacity or past it.
 pub fn grown(tally: &[u16], capacity: usize, label: u16) -> Reply<Vec<u16>> {
     let mut tally = tally.to_vec();
     if tally[label as usize] as usize >= capacity {
@@ -56,9 +56,4 @@ pub fn linked(tally: &[u16], label: u16) -> Vec<u16> {
     tally[0] -= 1;
     tally[label as usize] += 1;
     with_most(tally)
-}
-
-/// Whether a growth by a node of this label left the tally that the rule gives.
-pub fn has_grown(before: &Table, after: &Table, label: u16) -> bool {
-    grown(before.tally.part(), before.levels.part().len(), label).as_deref() == Ok(after.tally.part())
 }

@@ -1,8 +1,9 @@
 //! Byte trees of capacity 128 (docs/FORMAT.md): every call has the outcome of the table form on the decoded tree, good or damaged. A byte tree's new root
-//! names none: it goes over the first tree's.
+//! names no root: it goes over the first tree's.
 
 use crate::checks::{check, equal};
-use crate::engine::{Grown, Reply, Table, NONE};
+use crate::engine::{Grown, Opening, Reply, Table, FIELDS, LABEL, NONE};
+use crate::labels::Labels;
 use crate::lent::Lent;
 use crate::random::Random;
 use crate::reading::Reading;
@@ -22,7 +23,7 @@ mod raw {
     extern "C" {
         pub fn nca_set_up(tree: *mut u8, tree_len: usize) -> u16;
         pub fn nca_add_leaf(tree: *mut u8, tree_len: usize, parent: u16, label: u16, out: *mut u8, out_len: usize) -> u16;
-        pub fn nca_add_root(tree: *mut u8, tree_len: usize, out: *mut u8, out_len: usize) -> u16;
+        pub fn nca_add_root(tree: *mut u8, tree_len: usize, named: u16, opening: u16, out: *mut u8, out_len: usize) -> u16;
         pub fn nca_query(tree: *const u8, tree_len: usize, x: u16, y: u16, out: *mut u8, out_len: usize) -> u16;
     }
 }
@@ -97,10 +98,11 @@ impl Tree {
         }
     }
 
-    fn add_root(&mut self, len: usize) -> Reply<Grown> {
+    fn add_root(&mut self, opening: Opening, len: usize) -> Reply<Grown> {
         let (mut out, tree) = (Lent::<u8>::marked(len), self.bytes.part_mut());
         let o = out.part_mut();
-        let code = unsafe { raw::nca_add_root(tree.as_mut_ptr(), tree.len(), o.as_mut_ptr(), o.len()) };
+        let Opening { named, number } = opening;
+        let code = unsafe { raw::nca_add_root(tree.as_mut_ptr(), tree.len(), named, number, o.as_mut_ptr(), o.len()) };
         self.after("new root", code, &out);
         if code == 0 {
             Ok(grown(out.part()))
@@ -130,19 +132,32 @@ fn grown(out: &[u8]) -> Grown {
     Grown { node: number(0), rows: number(2), head: number(4) }
 }
 
+/// What a new root over the first tree's gives; a first node has no use for an opening.
+fn labels(table: &Table, opening: Opening) -> Labels {
+    if table.count == 0 {
+        Labels::of(0)
+    } else {
+        Labels::over(table.root_of(0), opening)
+    }
+}
+
 /// Document 01's new root on a table of capacity 128, kept as bytes.
-pub fn add_root_to(table: &Table) -> Reply<Grown> {
+pub fn add_root_to(table: &Table, opening: Opening) -> Reply<Grown> {
     let bytes = encode(table);
     let mut tree = Tree::of(&bytes);
-    let reply = tree.add_root(GROWN);
+    let reply = tree.add_root(opening, GROWN);
     check(reply.is_ok() || tree.bytes.part() == bytes, || format!("new root on bytes gave {reply:?} and stored"));
-    check(reply.is_err() || tally::has_grown(table, &decode(tree.bytes.part()), 0), || "the tally after a new root on bytes".into());
+    let left = |after: Table| labels(table, opening).are_left(table, &after);
+    check(reply.is_err() || left(decode(tree.bytes.part())), || "labels and tally after a new root on bytes".into());
     reply
 }
 
 /// The new root of the table form over the first tree's, which a byte tree does not name; none where the table form has no such call, since what row 0
 /// records is no root of its own tree.
-fn add_root(table: &mut Table, scratch: &Lent<u16>) -> Option<Reply<Grown>> {
+fn add_root(table: &mut Table, scratch: &Lent<u16>, opening: Opening) -> Option<Reply<Grown>> {
+    if opening.label().is_some_and(|label| !(1..=9999).contains(&label)) {
+        return Some(Err(5));
+    }
     if table.count == 0 {
         return Some(table.add_first(scratch));
     }
@@ -153,7 +168,7 @@ fn add_root(table: &mut Table, scratch: &Lent<u16>) -> Option<Reply<Grown>> {
     if root >= table.count {
         return Some(Err(4));
     }
-    Some(table.add_root(scratch, root)).filter(|reply| *reply != Err(10))
+    Some(table.add_root(scratch, root, opening)).filter(|reply| *reply != Err(10))
 }
 
 /// One growth and one question on both forms; the tree after it is the table after it.
@@ -163,9 +178,10 @@ fn step(tree: &mut Tree, random: &mut Random) {
     let node = |random: &mut Random| if random.one_in(24) { random.word() as u16 } else { random.below(count) as u16 };
     let (parent, label) = (node(random), if random.one_in(24) { [0, 9999, 10000][random.below(3)] } else { 1 + random.below(3) as u16 });
     let (found, expected) = if table.count == 0 || random.one_in(10) {
-        let found = tree.add_root(GROWN);
-        let Some(expected) = add_root(&mut table, &scratch) else {
-            let read = Reading::of(&table).add_root_first_tree(CAPACITY);
+        let opening = Opening::any(label, random);
+        let found = tree.add_root(opening, GROWN);
+        let Some(expected) = add_root(&mut table, &scratch, opening) else {
+            let read = Reading::of(&table).add_root_first_tree(CAPACITY, opening.label());
             equal(found, read, || format!("new root of a damaged byte tree of {count} nodes"));
             return;
         };
@@ -236,7 +252,8 @@ pub fn misfits() -> String {
         let what = || format!("a byte tree of {len} bytes");
         equal(tree.set_up(), Err(3), what);
         equal(tree.add_leaf(0, 1, GROWN), Err(3), what);
-        equal(tree.add_root(GROWN), Err(3), what);
+        equal(tree.add_root(Opening::NONE, GROWN), Err(3), what);
+        equal(tree.add_root(Opening::of(0), GROWN), Err(3), what);
         equal(tree.query(0, 0, 16), Err(3), what);
         check(tree.bytes.part().iter().all(|b| *b == 0), || format!("{} was stored to", what()));
     }
@@ -245,9 +262,43 @@ pub fn misfits() -> String {
     let before = tree.bytes.part().to_vec();
     for len in [0, 4, 5, 7, 15, 17] {
         equal(tree.add_leaf(0, 1, len), Err(3), || format!("leaf with an answer of {len} bytes"));
-        equal(tree.add_root(len), Err(3), || format!("new root with an answer of {len} bytes"));
+        equal(tree.add_root(Opening::NONE, len), Err(3), || format!("new root with an answer of {len} bytes"));
+        equal(tree.add_root(Opening::of(0), len), Err(3), || format!("new root through 0 with an answer of {len} bytes"));
         equal(tree.query(0, 0, len), Err(3), || format!("question with an answer of {len} bytes"));
     }
     check(tree.bytes.part() == before, || "a misfit was stored".into());
     "8 trees".into()
+}
+
+/// The labels of a tree's rows in use, and whether its tally is the full count of them.
+fn marks(tree: &Tree) -> (Vec<u16>, bool) {
+    let table = decode(tree.bytes.part());
+    let labels: Vec<u16> = table.fields.part().chunks(FIELDS).take(table.count as usize).map(|row| row[LABEL]).collect();
+    let counted = table.tally.part() == tally::count(&labels);
+    (labels, counted)
+}
+
+/// An empty tree checks an opening that is named and has no other use for it; later ones go to the old root. On a full tree 5 comes before 2.
+pub fn openings() -> String {
+    let mut tree = Tree::of(&vec![0; BYTES]);
+    equal(tree.set_up(), Ok(()), || "set-up of a byte tree".into());
+    for number in [0, 10000, 65535] {
+        equal(tree.add_root(Opening::of(number), GROWN), Err(5), || format!("the first node of a byte tree through {number}"));
+    }
+    equal(tree.add_root(Opening::of(9999), GROWN), Ok(Grown { node: 0, rows: 1, head: 0 }), || "a first node through 9,999".into());
+    equal(marks(&tree), (vec![0], true), || "a first node has no use for an opening".into());
+    equal(tree.add_root(Opening::of(12), GROWN), Ok(Grown { node: 1, rows: 2, head: 0 }), || "a new root through 12".into());
+    equal(marks(&tree), (vec![12, 0], true), || "the opening at the old root".into());
+    equal(tree.add_root(Opening { named: 0, number: 65535 }, GROWN).map(|g| g.node), Ok(2), || "a new root that names none".into());
+    equal(tree.add_root(Opening { named: 256, number: 9999 }, GROWN).map(|g| g.node), Ok(3), || "a new root through 9,999".into());
+    equal(marks(&tree), (vec![12, 0, 9999, 0], true), || "an old root that kept 0, and one that did not".into());
+    equal(tree.query(0, 2, 16), Ok([2, 1, 2, 2, 0, 9999]), || "a question that an old root answers".into());
+    (4..CAPACITY as u16).for_each(|x| equal(tree.add_leaf(0, 1, GROWN).map(|g| g.node), Ok(x), || "a leaf".into()));
+    let before = tree.bytes.part().to_vec();
+    for (opening, refusal) in [(Opening::NONE, 2), (Opening::of(7), 2), (Opening::of(0), 5), (Opening::of(10000), 5)] {
+        equal(tree.add_root(opening, GROWN), Err(refusal), || format!("{opening:?} on a full byte tree"));
+    }
+    equal(tree.add_root(Opening { named: 0, number: 10000 }, GROWN), Err(2), || "a number that is not looked at".into());
+    check(tree.bytes.part() == before, || "a refused opening was stored".into());
+    "1 tree".into()
 }

@@ -2,7 +2,7 @@
 //! them, and after every call a full count of their labels beside the tally.
 
 use crate::checks::{check, equal};
-use crate::engine::{Grown, Reply, Table, ENTRIES, FIELDS, NUMBERS, ROOT};
+use crate::engine::{Grown, Opening, Reply, Table, ENTRIES, FIELDS, NUMBERS, ROOT};
 use crate::lent::Lent;
 use crate::stored::Stored;
 use crate::tally;
@@ -24,6 +24,14 @@ struct List {
 
 fn numbers(words: &str) -> Vec<i64> {
     words.split_whitespace().filter_map(|w| w.parse().ok()).collect()
+}
+
+/// What a new root is given: behind its x may stand whether it names an opening, and which; else it names none.
+fn opening(given: &[i64]) -> Opening {
+    match given {
+        [_, named, number, _] => Opening { named: *named as u16, number: *number as u16 },
+        _ => Opening::NONE,
+    }
 }
 
 /// A reply as it is written: R and a refusal, or a letter and values.
@@ -55,7 +63,7 @@ impl List {
         if self.table.count == 0 {
             self.table.add_first(scratch)
         } else {
-            self.table.add_root(scratch, self.table.root_of(0))
+            self.table.add_root(scratch, self.table.root_of(0), Opening::NONE)
         }
     }
 
@@ -90,12 +98,13 @@ impl List {
                 self.grown(found, |stored| stored.add_leaf(arg(0), arg(1)))
             }
             "T" => {
-                let found = self.table.add_root(&scratch, arg(0));
-                self.grown(found, |stored| stored.add_root(arg(0)))
+                let opening = opening(&given);
+                let found = self.table.add_root(&scratch, arg(0), opening);
+                self.grown(found, |stored| stored.add_root(arg(0), opening.label()))
             }
             "O" => {
                 let found = self.add_root_first_tree(&scratch);
-                self.grown(found, |stored| stored.add_root_first_tree())
+                self.grown(found, |stored| stored.add_root_first_tree(None))
             }
             "H" => self.link(&mut scratch, arg(0), arg(1), arg(2)),
             "Q" => self.table.query(arg(0), arg(1)).map(|values| values.map(i64::from).to_vec()),

@@ -1,4 +1,5 @@
 -- The growths of the table form, for a C host: each is that of the engine, with its answer in an out slice. A misfit of the out slice is looked for first.
+use mathlib.Core.Bool.{Bool}
 use mathlib.Core.List.{List}
 use Prim.Native.Nat.{ℕ}
 use Rattle.table.specs.declared.state.State.{State}
@@ -17,5 +18,5 @@ firstCall t w out scratch s = growthCall t w out (addFirst t w scratch s)
 abbrev pub leafCall : Parts → List ℕ → List ℕ → ℕ → State → ℕ → ℕ → Outcome
 leafCall t w out scratch s parent label = growthCall t w out (addLeaf t w scratch s parent label)
 
-abbrev pub rootCall : Parts → List ℕ → List ℕ → ℕ → State → ℕ → Outcome
-rootCall t w out scratch s x = growthCall t w out (addOver t w scratch s x)
+abbrev pub rootCall : Parts → List ℕ → List ℕ → ℕ → State → ℕ → Bool → ℕ → Outcome
+rootCall t w out scratch s x named opening = growthCall t w out (addOver t w scratch s x named opening)

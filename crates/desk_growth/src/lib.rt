@@ -7,7 +7,7 @@ use table::state::State;
 ghost use mathlib.Core.Path.{_≡_};
 ghost use lib.ListN.{length};
 ghost use Rattle.table.specs.Parts.{partsOf};
-ghost use Rattle.replies.specs.Reply.{stateOf, reply, outcome};
+ghost use Rattle.replies.specs.Reply.{stateOf, isNamed, reply, outcome};
 ghost use Rattle.desk_growth.specs.GrowthCalls.{firstCall, leafCall, rootCall};
 
 // How many values a growth has for its out slice.
@@ -69,7 +69,7 @@ pub extern "C" fn nca_table_add_leaf(
     reply_grown(grown, out)
 }
 
-// A new root over x, the root of a tree. Out: count, node, rows renumbered, head.
+// A new root over x, the root of a tree, which takes the opening, where `named` is not 0, as its label. Out: count, node, rows renumbered, head.
 #[no_mangle]
 pub extern "C" fn nca_table_add_root(
     fields: &mut [u16],
@@ -80,14 +80,27 @@ pub extern "C" fn nca_table_add_root(
     scratch: &[u16],
     count: u16,
     x: u16,
+    named: u16,
+    opening: u16,
     out: &mut [u16],
 ) -> u16
-    ensures { λ r. ⌜ outcome (partsOf (now (fields .exit)) (now (numbers .exit)) (now (levels .exit)) (now (ancestors .exit))) (now (tally .exit)) (reply r (now (out .exit))) ≡ rootCall (partsOf (now (fields .entry)) (now (numbers .entry)) (now (levels .entry)) (now (ancestors .entry))) (now (tally .entry)) (now (out .entry)) (length (now (scratch .entry))) (stateOf count) x ⌝ }
+    ensures { λ r. ⌜ outcome (partsOf (now (fields .exit)) (now (numbers .exit)) (now (levels .exit)) (now (ancestors .exit))) (now (tally .exit)) (reply r (now (out .exit))) ≡ rootCall (partsOf (now (fields .entry)) (now (numbers .entry)) (now (levels .entry)) (now (ancestors .entry))) (now (tally .entry)) (now (out .entry)) (length (now (scratch .entry))) (stateOf count) x (isNamed named) opening ⌝ }
 {
     if out.len() != GROWN_OUT {
         return number_of(Refusal::Misfit);
     }
     let state = State { count: count };
-    let grown = growth::add_root_over(fields, numbers, levels, ancestors, tally, scratch, state, x);
+    let grown = growth::add_root_over(
+        fields,
+        numbers,
+        levels,
+        ancestors,
+        tally,
+        scratch,
+        state,
+        x,
+        named != 0,
+        opening,
+    );
     reply_grown(grown, out)
 }

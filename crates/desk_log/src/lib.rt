@@ -42,7 +42,11 @@ fn reply_field(field: Field, out: &mut [u16]) -> u16
             label,
             next: _,
         } => put_field(out, 1, parent, label),
-        Field::Root(_) => put_field(out, 2, 0, 0),
+        Field::Root {
+            named,
+            opening,
+            next: _,
+        } => put_field(out, 2, named as u16, opening),
         Field::Question { x, y, next: _ } => put_field(out, 3, x, y),
         Field::Alike { x, y, next: _ } => put_field(out, 4, x, y),
         Field::Filler(_) => put_field(out, 9, 0, 0),

@@ -1,5 +1,6 @@
 -- Byte trees of capacity 128 for a C host, the growths: each call is that of the table form on what the bytes hold, with a scratch that fits.
 -- Misfits of the tree's bytes and of the out slice are looked for first.
+use mathlib.Core.Bool.{Bool}
 use mathlib.Core.List.{List}
 use Prim.Native.Nat.{ℕ}
 use Rattle.table.specs.Parts.{Parts}
@@ -41,5 +42,5 @@ onLengths b out g = onLength treeBytes b (onLength 6 out (afterGrowth b out g) (
 unfoldable pub leafTree : List ℕ → List ℕ → ℕ → ℕ → Outcome
 leafTree b out parent label = onLengths b out (addLeaf (partsIn b) (tallyIn b) treeRows (stateIn b) parent label)
 
-unfoldable pub rootTree : List ℕ → List ℕ → Outcome
-rootTree b out = onLengths b out (addRoot (partsIn b) (tallyIn b) treeRows (stateIn b))
+unfoldable pub rootTree : List ℕ → List ℕ → Bool → ℕ → Outcome
+rootTree b out named opening = onLengths b out (addRoot (partsIn b) (tallyIn b) treeRows (stateIn b) named opening)

@@ -1,5 +1,6 @@
 -- The growths of a byte tree, by whether the slices have their lengths, from what the call of the engine and the reply left.
 use mathlib.Core.Path.{_≡_, ap, subst, _∙_}
+use mathlib.Core.Bool.{Bool}
 use mathlib.Core.Logic.{_≢_}
 use mathlib.Core.List.{List}
 use Prim.Native.Nat.{ℕ}
@@ -22,9 +23,10 @@ module _ (b after : List ℕ) (u t : Parts) (v w : List ℕ) (s : State) (g : Gr
       let z : growth.result t w g ≡ addLeaf (partsIn b) (tallyIn b) treeRows (stateIn b) parent label = q ∙ rw (i, l, j) in
       subst (λ (o : Growth). GrowthHeld after o) z h
 
-  pub root-held : growth.result t w g ≡ addRoot u v treeRows s → GrowthHeld after (addRoot (partsIn b) (tallyIn b) treeRows (stateIn b))
-  root-held q =
-      let z : growth.result t w g ≡ addRoot (partsIn b) (tallyIn b) treeRows (stateIn b) = q ∙ rw (i, l, j) in
+  pub root-held : (named : Bool) (opening : ℕ) → growth.result t w g ≡ addRoot u v treeRows s named opening
+      → GrowthHeld after (addRoot (partsIn b) (tallyIn b) treeRows (stateIn b) named opening)
+  root-held named opening q =
+      let z : growth.result t w g ≡ addRoot (partsIn b) (tallyIn b) treeRows (stateIn b) named opening = q ∙ rw (i, l, j) in
       subst (λ (o : Growth). GrowthHeld after o) z h
 
 module _ (b out : List ℕ) {r : ℕ} where
@@ -42,13 +44,13 @@ module _ (b out : List ℕ) {r : ℕ} where
   unfolding leafTree
   leaf-out-misfit parent label = grown-out-misfit (addLeaf (partsIn b) (tallyIn b) treeRows (stateIn b) parent label)
 
-  pub root-tree-misfit : r ≡ 3 → length b ≢ treeBytes → outcome b (reply r out) ≡ rootTree b out
+  pub root-tree-misfit : (named : Bool) (opening : ℕ) → r ≡ 3 → length b ≢ treeBytes → outcome b (reply r out) ≡ rootTree b out named opening
   unfolding rootTree
-  root-tree-misfit = grown-tree-misfit (addRoot (partsIn b) (tallyIn b) treeRows (stateIn b))
+  root-tree-misfit named opening = grown-tree-misfit (addRoot (partsIn b) (tallyIn b) treeRows (stateIn b) named opening)
 
-  pub root-out-misfit : r ≡ 3 → length b ≡ treeBytes → length out ≢ 6 → outcome b (reply r out) ≡ rootTree b out
+  pub root-out-misfit : (named : Bool) (opening : ℕ) → r ≡ 3 → length b ≡ treeBytes → length out ≢ 6 → outcome b (reply r out) ≡ rootTree b out named opening
   unfolding rootTree
-  root-out-misfit = grown-out-misfit (addRoot (partsIn b) (tallyIn b) treeRows (stateIn b))
+  root-out-misfit named opening = grown-out-misfit (addRoot (partsIn b) (tallyIn b) treeRows (stateIn b) named opening)
 
   module _ (after outAfter : List ℕ) (u t : Parts) (v w : List ℕ) (s : State) (g : GrowthOutcome) (e : length b ≡ treeBytes) (f : length out ≡ 6) (i : u ≡ partsIn b) (l : v ≡ tallyIn b)
       (j : s ≡ stateIn b) (k : after ≡ treeAfter b t w g) (h : reply r outAfter ≡ grownBytes out g) where
@@ -59,6 +61,9 @@ module _ (b out : List ℕ) {r : ℕ} where
     unfolding leafTree
     leaf-kept parent label q = let z : growth.result t w g ≡ addLeaf (partsIn b) (tallyIn b) treeRows (stateIn b) parent label = q ∙ rw (i, l, j) in kept ∙ ap (onLengths b out) z
 
-    pub root-kept : growth.result t w g ≡ addRoot u v treeRows s → outcome after (reply r outAfter) ≡ rootTree b out
+    pub root-kept : (named : Bool) (opening : ℕ) → growth.result t w g ≡ addRoot u v treeRows s named opening
+        → outcome after (reply r outAfter) ≡ rootTree b out named opening
     unfolding rootTree
-    root-kept q = let z : growth.result t w g ≡ addRoot (partsIn b) (tallyIn b) treeRows (stateIn b) = q ∙ rw (i, l, j) in kept ∙ ap (onLengths b out) z
+    root-kept named opening q =
+        let z : growth.result t w g ≡ addRoot (partsIn b) (tallyIn b) treeRows (stateIn b) named opening = q ∙ rw (i, l, j) in
+        kept ∙ ap (onLengths b out) z

@@ -22,7 +22,7 @@ ghost use Rattle.tally.specs.Layout.{tallyLength};
 ghost use Rattle.bytes_tree.specs.Tree.{treeRows, treeBytes, stateIn, partsIn, tallyIn};
 ghost use Rattle.growth.specs.Outcome.{outcomeOf as growthOf};
 ghost use Rattle.growth.specs.Growth.{addLeaf, addRoot};
-ghost use Rattle.replies.specs.Reply.{reply};
+ghost use Rattle.replies.specs.Reply.{isNamed, reply};
 ghost use Rattle.desk_tree_growth.specs.TreeGrowthCalls.{outcome, treeAfter, GrownHeld, GrowthHeld, leafTree, rootTree};
 
 // How many bytes a growth has for its out slice.
@@ -89,11 +89,12 @@ pub extern "C" fn nca_add_leaf(tree: &mut [u8], parent: u16, label: u16, out: &m
     reply_grown(grown, out)
 }
 
-// A first node in an empty tree, else a new root over the first tree's, as a byte tree keeps to it. Out: node, rows renumbered, head.
+// A first node in an empty tree, else a new root over the first tree's, as a byte tree keeps to it, which takes the opening, where `named` is not 0, as its
+// label. Out: node, rows renumbered, head.
 #[no_mangle]
-pub extern "C" fn nca_add_root(tree: &mut [u8], out: &mut [u8]) -> u16
-    ensures answer { λ r. ⌜ outcome (now (tree .exit)) (reply r (now (out .exit))) ≡ rootTree (now (tree .entry)) (now (out .entry)) ⌝ }
-    ensures held { λ r. ⌜ (r ≡ 0 → GrowthHeld (now (tree .exit)) (addRoot (partsIn (now (tree .entry))) (tallyIn (now (tree .entry))) treeRows (stateIn (now (tree .entry))))) ⌝ }
+pub extern "C" fn nca_add_root(tree: &mut [u8], named: u16, opening: u16, out: &mut [u8]) -> u16
+    ensures answer { λ r. ⌜ outcome (now (tree .exit)) (reply r (now (out .exit))) ≡ rootTree (now (tree .entry)) (now (out .entry)) (isNamed named) opening ⌝ }
+    ensures held { λ r. ⌜ (r ≡ 0 → GrowthHeld (now (tree .exit)) (addRoot (partsIn (now (tree .entry))) (tallyIn (now (tree .entry))) treeRows (stateIn (now (tree .entry))) (isNamed named) opening)) ⌝ }
 {
     if tree.len() != BYTES {
         return number_of(Refusal::Misfit);
@@ -118,6 +119,8 @@ pub extern "C" fn nca_add_root(tree: &mut [u8], out: &mut [u8]) -> u16
         &mut tally,
         &scratch,
         state,
+        named != 0,
+        opening,
     );
     keep_grown(tree, &fields, &numbers, &levels, &ancestors, &tally, grown);
     reply_grown(grown, out)

@@ -1,4 +1,5 @@
 -- Growth: the outcome, all parts and the tally afterwards, of a first node, a new leaf and a new root, on every table and every tally.
+use mathlib.Core.Bool.{Bool}
 use mathlib.Core.List.{List}
 use Prim.Native.Nat.{ℕ}
 use lib.IntN.{pos}
@@ -32,7 +33,8 @@ result t w o = record { outcome = o; parts = t; tally = w }
 abbrev pub nodeAt : ℕ → ℕ → ℕ → Outcome
 nodeAt row rows head = node (oneMore row) row rows head
 
--- a growth that was served: the head is the one of its seat, and there is a node more of its label
+-- a growth that was served: the head is the one of its seat, and there is a node more of its label. That is the new row's, or the opening that an old root
+-- of label 0 takes: then the new row is a node more of label 0, and the old root one less (02: "where an old source takes it, entry 0 stays")
 unfoldable pub served : List ℕ → Plan → Stored → Result
 served w g s = result (s .parts) (counted w (g .label)) (nodeAt (g .seat .leaf .row) (s .given) (g .seat .head .row))
 
@@ -64,10 +66,10 @@ addFirst t w scratch s = grownBy t w (firstPlan t scratch s)
 unfoldable pub addLeaf : Parts → List ℕ → ℕ → State → ℕ → ℕ → Result
 addLeaf t w scratch s parent label = grownBy t w (leafPlan t scratch s parent label)
 
--- a new root over x
-unfoldable pub addOver : Parts → List ℕ → ℕ → State → ℕ → Result
-addOver t w scratch s x = grownBy t w (overPlan t scratch s x)
+-- a new root over x, which takes the opening, where one is named (02: "A top shall name the opening, which becomes the old source's panel")
+unfoldable pub addOver : Parts → List ℕ → ℕ → State → ℕ → Bool → ℕ → Result
+addOver t w scratch s x named opening = grownBy t w (overPlan t scratch s x named opening)
 
 -- a new root over that of the first tree; the first node where there is none
-unfoldable pub addRoot : Parts → List ℕ → ℕ → State → Result
-addRoot t w scratch s = grownBy t w (rootPlan t scratch s)
+unfoldable pub addRoot : Parts → List ℕ → ℕ → State → Bool → ℕ → Result
+addRoot t w scratch s named opening = grownBy t w (rootPlan t scratch s named opening)

@@ -1,6 +1,7 @@
 -- A first node on a table that passes inspection: served, and what it answers and leaves is a row more that stands alone (02, "each begun by a call
 -- for its first node"). 01's new root of an empty table is one.
 use mathlib.Core.Path.{_≡_, refl, ap, _∙_}
+use mathlib.Core.Bool.{Bool}
 use mathlib.Core.List.{List}
 use Prim.Native.Nat.{ℕ, suc, _+_, _*_, _≤_, _<_}
 use native.Mathlib.Omega.{arith}
@@ -8,6 +9,7 @@ use lib.IntN.{pos}
 use lib.ListN.{length-set}
 use lib.Seq.{getD-set-same, getD-set-other}
 use Rattle.table.specs.declared.state.State.{State}
+use Rattle.laws.specs.Test.{says-true}
 use Rattle.layer.specs.Layout.{fieldStride, depthPlace}
 use Rattle.table.specs.Layout.{labelPlace, rootPlace}
 use Rattle.table.specs.Parts.{Parts, partsOf, withLevel}
@@ -20,6 +22,7 @@ use Rattle.tally.specs.Count.{counted}
 use Rattle.tally_exact.specs.CountExact.{counted-tallied}
 use Rattle.tally_exact.specs.RoomExact.{tallied-room}
 use Rattle.join_laws.specs.Extend.{extended-by}
+use Rattle.growth_laws.specs.Growth.{Opens}
 use Rattle.growth_laws.specs.Grown.{Started}
 use Rattle.growth_laws.specs.GrowthFrame.{StartFrame}
 use Rattle.growth_laws.specs.GrowthKeepsRules.{start-keeps-rules, start-plain}
@@ -36,6 +39,7 @@ use Rattle.growth_store.specs.Start.{startedFields}
 use Rattle.renumber_laws.specs.Column.{put, put-other}
 use Rattle.renumber_exact.specs.Columns.{RowView, row-set}
 use Rattle.join_exact.specs.LoneExact.{own, fields, lone-long, lone-in, kept-in}
+use Rattle.growth_exact.specs.GivenLabel.{says-opening}
 use Rattle.growth_exact.specs.PlanExact.{layerParts, long-parts}
 use Rattle.growth_exact.specs.GrowthExact.{tableGrown, capacity-is, standing-is, count-more}
 
@@ -136,9 +140,10 @@ module _ {c : ℕ} (p : Parts) (s : State) (fit : Fits c p) (r : Rules c (tableO
       unfolding addFirst
       first-exact = rw (← first-row p scratch s c (capacity-is p fit) long (λ e. omega arith) (standing-is p s r)) start-exactly
 
-      -- 01's new root where there is no node yet
-      pub root-first-exact : s .count ≡ 0 → StartedExactly c p s (addRoot p w scratch s)
+      -- 01's new root where there is no node yet: an opening is not used
+      pub root-first-exact : (named : Bool) (opening : ℕ) → Opens named opening → s .count ≡ 0 → StartedExactly c p s (addRoot p w scratch s named opening)
       unfolding addRoot
-      root-first-exact z =
-          let e : Start n ≡ rootPlan p scratch s = ap Start z ∙ root-first p scratch s c (capacity-is p fit) long (λ e. omega arith) (standing-is p s r) z in
+      root-first-exact named opening through z =
+          let e : Start n ≡ rootPlan p scratch s named opening = ap Start z
+          ∙ root-first p scratch s named opening c (capacity-is p fit) long (says-true (says-opening named opening) through) (λ e. omega arith) (standing-is p s r) z in
           rw (← e) start-exactly

@@ -1,6 +1,7 @@
 -- What a growth leaves as it was, on every table that passes inspection, by the definitions that the contracts of the code cite (02, "Redraw only what
 -- moved"): where a call answers a node and a head, the frame of that head holds.
 use mathlib.Core.Path.{_≡_, ap}
+use mathlib.Core.Bool.{Bool}
 use mathlib.Core.List.{List}
 use Prim.Native.Nat.{ℕ, suc, _<_}
 use native.Mathlib.Omega.{arith}
@@ -48,13 +49,15 @@ module _ {c : ℕ} (p : Parts) (w : List ℕ) (s : State) (fit : Fits c p) (r : 
       → GrowthFrame c (tableOf p (s .count)) (tableOf (addLeaf p w scratch s v label .parts) m) (leaf v label) h
   leaf-frame v label e = growth-frame e (leaf-outcome p w s fit r i scratch v label)
 
-  pub over-frame : (x : ℕ) → addOver p w scratch s x .outcome ≡ node m z k h
-      → GrowthFrame c (tableOf p (s .count)) (tableOf (addOver p w scratch s x .parts) m) (newRoot x) h
-  over-frame x e = growth-frame e (over-outcome p w s fit r i scratch x)
+  module _ (named : Bool) (opening : ℕ) where
+    pub over-frame : (x : ℕ) → addOver p w scratch s x named opening .outcome ≡ node m z k h
+        → GrowthFrame c (tableOf p (s .count)) (tableOf (addOver p w scratch s x named opening .parts) m) (newRoot x named opening) h
+    over-frame x e = growth-frame e (over-outcome p w s fit r i scratch named opening x)
 
-  pub root-first-frame : s .count ≡ 0 → addRoot p w scratch s .outcome ≡ node m z k h → StartFrame c (tableOf p (s .count)) (tableOf (addRoot p w scratch s .parts) m)
-  root-first-frame y e = start-frame e (root-first-outcome p w s fit r i scratch y)
+    pub root-first-frame : s .count ≡ 0 → addRoot p w scratch s named opening .outcome ≡ node m z k h
+        → StartFrame c (tableOf p (s .count)) (tableOf (addRoot p w scratch s named opening .parts) m)
+    root-first-frame y e = start-frame e (root-first-outcome p w s fit r i scratch named opening y)
 
-  pub root-frame : 0 < s .count → addRoot p w scratch s .outcome ≡ node m z k h
-      → GrowthFrame c (tableOf p (s .count)) (tableOf (addRoot p w scratch s .parts) m) (newRoot (root (tableOf p (s .count)) 0)) h
-  root-frame y e = growth-frame e (root-outcome p w s fit r i scratch y)
+    pub root-frame : 0 < s .count → addRoot p w scratch s named opening .outcome ≡ node m z k h
+        → GrowthFrame c (tableOf p (s .count)) (tableOf (addRoot p w scratch s named opening .parts) m) (newRoot (root (tableOf p (s .count)) 0) named opening) h
+    root-frame y e = growth-frame e (root-outcome p w s fit r i scratch named opening y)

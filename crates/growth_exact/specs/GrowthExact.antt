@@ -1,12 +1,11 @@
 -- Growth on a table that passes inspection, by the definitions that the code's contracts name: it is served, and what it answers and leaves is the
 -- growth that 01 asks for (01, "On a table that passes inspection no call gives 4").
-use mathlib.Core.Path.{_≡_, refl, ap, sym, _∙_}
-use mathlib.Core.Bool.{true}
+use mathlib.Core.Path.{_≡_, ap, sym, _∙_}
+use mathlib.Core.Bool.{Bool, true}
 use mathlib.Core.Logic.{_≢_}
 use mathlib.Core.List.{List}
 use Prim.Native.Nat.{ℕ, suc, _+_, _*_, _≤_, _<_}
 use native.Mathlib.Omega.{arith}
-use borrow.Author.Tests.{le-leb}
 use Rattle.laws.specs.Test.{says-true}
 use Rattle.tree_laws.specs.Ancestor.{none}
 use Rattle.table.specs.declared.capacity.Fit.the-variants.{Capacity}
@@ -25,13 +24,12 @@ use Rattle.table.specs.Rules.{Rules, numbered}
 use Rattle.tally.specs.Tally.{TallyOf}
 use Rattle.tally.specs.FitLaws.{with-told}
 use Rattle.tally.specs.Count.{hasRoom, counted}
-use Rattle.tally_exact.specs.CountExact.{counted-tallied}
 use Rattle.tally_exact.specs.RoomExact.{tallied-room}
 use Rattle.layer_laws.specs.Numbered.{InTree, in-tree, first-is}
 use Rattle.table_laws.specs.LevelBounds.{level-small}
 use Rattle.table_laws.specs.Lines.{root-in}
 use Rattle.table_laws.specs.TreeTests.{tree-is, root-is}
-use Rattle.growth_laws.specs.Growth.{Growth, leaf, root, Named, named-leaf, named-root, labelOf, levelOf, treeOf}
+use Rattle.growth_laws.specs.Growth.{Growth, leaf, root, Opens, Named, named-leaf, named-root, levelOf, treeOf}
 use Rattle.join_laws.specs.Extend.{withLone}
 use Rattle.growth_laws.specs.Grown.{Grown}
 use Rattle.growth_laws.specs.GrownLaws.{growth-pays}
@@ -52,8 +50,9 @@ use Rattle.growth_plan.specs.PlanLaws.{leaf-row, above-row, over-row, root-row}
 use Rattle.growth.specs.Outcome.{node}
 use Rattle.growth.specs.Growth.{Result, result, nodeAt, served, grownAt, grownBy, addLeaf, addOver, addRoot}
 use Rattle.renumber_exact.specs.SizeWalkExact.{more-one}
+use Rattle.growth_exact.specs.GivenLabel.{labelGiven, labelledRow, says-label, says-opening, given-most, given-tallied}
 use Rattle.growth_exact.specs.PlanExact.{plan, joinedParts, plan-stored, plan-fits, plan-step}
-use Rattle.growth_exact.specs.GrowthSite.{site, level-planned, grows, headRow, tableGrown as tableJoined, grown, grown-rules, site-frame}
+use Rattle.growth_exact.specs.GrowthSite.{site, level-planned, grows, headRow, tableGrown as tableJoined, labelled, grown, grown-rules, site-frame}
 
 -- the table that stands after a growth
 abbrev pub tableGrown : State → Result → Table
@@ -105,10 +104,6 @@ rooted p s fit r x l e =
 
 -- From the plan to the outcome
 
-label-most : {t : Table} {g : Growth} → Named t g → labelOf g ≤ labelLimit
-label-most (named-leaf l i j) = j
-label-most (named-root l e) = omega arith
-
 module _ {c : ℕ} (p : Parts) (w : List ℕ) (s : State) (fit : Fits c p) (r : Rules c (tableOf p (s .count))) (k : TallyOf (tableOf p (s .count)) w)
     (room : s .count < c) (g : Growth) (named : Named (tableOf p (s .count)) g) where
   abbrev t : Table
@@ -121,15 +116,15 @@ module _ {c : ℕ} (p : Parts) (w : List ℕ) (s : State) (fit : Fits c p) (r : 
   h = headRow p (s .count) fit r room g named
 
   abbrev left : Result
-  left = result (joinedParts fit (site p (s .count) fit r room g named) (levelOf t g) (labelOf g) (treeOf t g)) (counted w (labelOf g))
+  left = result (joinedParts fit (site p (s .count) fit r room g named) (levelOf t g) (labelledRow t g) (labelGiven g) (treeOf t g)) (counted w (labelGiven g))
       (nodeAt (s .count) (rows (d .layer) h) h)
 
-  free : hasRoom w c (labelOf g) ≡ true
-  free = tallied-room k room (label-most named)
+  free : hasRoom w c (labelGiven g) ≡ true
+  free = tallied-room k room (given-most named)
 
-  outcome-is : grownBy p w (Grow (plan fit (site p (s .count) fit r room g named) (levelOf t g) (labelOf g) (treeOf t g))) ≡ left
+  outcome-is : grownBy p w (Grow (plan fit (site p (s .count) fit r room g named) (levelOf t g) (labelledRow t g) (labelGiven g) (treeOf t g))) ≡ left
   unfolding grownBy grownAt served
-  outcome-is = rw (with-told p w fit (k .long), free) (ap (λ (x : Stored). result (x .parts) (counted w (labelOf g)) (nodeAt (s .count) (x .given) h)) (plan-stored fit (site p (s .count) fit r room g named) (levelOf t g) (labelOf g) (treeOf t g)))
+  outcome-is = rw (with-told p w fit (k .long), free) (ap (λ (x : Stored). result (x .parts) (counted w (labelGiven g)) (nodeAt (s .count) (x .given) h)) (plan-stored fit (site p (s .count) fit r room g named) (levelOf t g) (labelledRow t g) (labelGiven g) (treeOf t g)))
 
   left-exactly : GrownExactly c p s g left
   left-exactly =
@@ -140,18 +135,18 @@ module _ {c : ℕ} (p : Parts) (w : List ℕ) (s : State) (fit : Fits c p) (r : 
       record {
         head = h;
         answered = count-more (s .count) p fit room (rows (d .layer) h) h;
-        fits = plan-fits fit i (levelOf t g) (labelOf g) (treeOf t g);
+        fits = plan-fits fit i (levelOf t g) (labelledRow t g) (labelGiven g) (treeOf t g);
         grown = b;
         order = order-after (numbered after (fit .most)) (b .step .renumbered);
         rules = after;
-        tally = counted-tallied k (plainly .labelOld) (plainly .labelNew);
+        tally = given-tallied r (fit .most) k named (labelled p (s .count) fit r room g named);
         plain = plainly;
         frame = site-frame p (s .count) fit r room g named;
-        headRows = join-head (i .was) (plan-step fit i (levelOf t g) (labelOf g) (treeOf t g));
+        headRows = join-head (i .was) (plan-step fit i (levelOf t g) (labelledRow t g) (labelGiven g) (treeOf t g));
         pays = growth-pays (numbered r (fit .most)) b;
       }
 
-  row-exactly : (q : Planned) → q ≡ Grow (plan fit (site p (s .count) fit r room g named) (levelOf t g) (labelOf g) (treeOf t g)) → GrownExactly c p s g (grownBy p w q)
+  row-exactly : (q : Planned) → q ≡ Grow (plan fit (site p (s .count) fit r room g named) (levelOf t g) (labelledRow t g) (labelGiven g) (treeOf t g)) → GrownExactly c p s g (grownBy p w q)
   row-exactly q e = rw (e, outcome-is) left-exactly
 
 -- The three calls
@@ -164,37 +159,41 @@ module _ {c : ℕ} (p : Parts) (w : List ℕ) (s : State) (fit : Fits c p) (r : 
   leaf-exact v label l i j =
       let g : Named (tableOf p (s .count)) (leaf v label) = named-leaf l i j in
       row-exactly p w s fit r k room (leaf v label) g (leafPlan p scratch s v label)
-      (sym (leaf-row p scratch s v label c (capacity-is p fit) same l (rw (le-leb 1 label i, le-leb label labelLimit j) refl) (λ e. omega arith)
+      (sym (leaf-row p scratch s v label c (capacity-is p fit) same l (says-true (says-label label) (i, j)) (λ e. omega arith)
       (standing-is p s r) (rooted p s fit r v l) _ (sym (level-planned p (s .count) fit r room (leaf v label) g _ (level-small r (fit .most) v l))))
       ∙ grows p (s .count) fit r room (leaf v label) g)
 
-  -- a new root over the root x
-  module _ (x : ℕ) (l : x < s .count) (own : rootIn (tableOf p (s .count)) x ≡ x) where
-    above : rootOver p s (first (tableOf p (s .count) .layer) x) x
-        ≡ Grow (plan fit (site p (s .count) fit r room (root x) (named-root l own)) (levelOf (tableOf p (s .count)) (root x)) 0 (treeOf (tableOf p (s .count)) (root x)))
-    above =
-        let g : Named (tableOf p (s .count)) (root x) = named-root l own in
-        let f : ℕ = treeOf (tableOf p (s .count)) (root x) in
-        sym (above-row p s f x _ (sym (level-planned p (s .count) fit r room (root x) g _ (level-small r (fit .most) x l)))) ∙ grows p (s .count) fit r room (root x) g
+  -- a new root over the root x, through an opening if one is named
+  module _ (named : Bool) (opening : ℕ) (through : Opens named opening) where
+    module _ (x : ℕ) (l : x < s .count) (own : rootIn (tableOf p (s .count)) x ≡ x) where
+      abbrev over : Growth
+      over = root x named opening
 
-    pub over-exact : GrownExactly c p s (root x) (addOver p w scratch s x)
-    unfolding addOver
-    over-exact =
-        let e : rootAt (p .fields) (p .ancestors) (s .count) x ≡ x = root-is p (s .count) r (fit .most) x l ∙ own in
-        row-exactly p w s fit r k room (root x) (named-root l own) (overPlan p scratch s x)
-        (sym (over-row p scratch s x c (capacity-is p fit) same l (standing-is p s r) (rooted p s fit r x l) e (λ e. omega arith))
-        ∙ ap (λ (f : ℕ). rootOver p s f x) (tree-is p (s .count) r (fit .most) (in-tree (numbered r (fit .most)) x l)) ∙ above)
+      above : rootOver p s (first (tableOf p (s .count) .layer) x) x named opening
+          ≡ Grow (plan fit (site p (s .count) fit r room over (named-root l own through)) (levelOf (tableOf p (s .count)) over) (labelledRow (tableOf p (s .count)) over) (labelGiven over) (treeOf (tableOf p (s .count)) over))
+      above =
+          let g : Named (tableOf p (s .count)) over = named-root l own through in
+          let f : ℕ = treeOf (tableOf p (s .count)) over in
+          sym (above-row p s f x named opening _ (sym (level-planned p (s .count) fit r room over g _ (level-small r (fit .most) x l)))) ∙ grows p (s .count) fit r room over g
 
-  -- a new root over that of the first tree, where there is one
-  pub root-exact : 0 < s .count → GrownExactly c p s (root (rootIn (tableOf p (s .count)) 0)) (addRoot p w scratch s)
-  unfolding addRoot
-  root-exact z =
-      let t : Table = tableOf p (s .count) in
-      let i : InTree (t .layer) (first (t .layer) 0) 0 = in-tree (numbered r (fit .most)) 0 z in
-      let j : InTree (t .layer) (first (t .layer) 0) (rootIn t 0) = root-in r (fit .most) i in
-      let e : first (t .layer) (rootIn t 0) ≡ first (t .layer) 0 = first-is (numbered r (fit .most)) j in
-      row-exactly p w s fit r k room (root (rootIn t 0)) (named-root (j .inUse) (ap (t .root) e)) (rootPlan p scratch s)
-      (sym (root-row p scratch s c (capacity-is p fit) same (λ e. omega arith) (standing-is p s r) (λ e. omega arith) (rooted p s fit r 0 z))
-      ∙ ap (λ (f : ℕ). rootOver p s f (rootAt (p .fields) (p .ancestors) (s .count) 0)) (tree-is p (s .count) r (fit .most) i ∙ sym e)
-      ∙ ap (λ (x : ℕ). rootOver p s (first (t .layer) (rootIn t 0)) x) (root-is p (s .count) r (fit .most) 0 z)
-      ∙ above (rootIn t 0) (j .inUse) (ap (t .root) e))
+      pub over-exact : GrownExactly c p s (root x named opening) (addOver p w scratch s x named opening)
+      unfolding addOver
+      over-exact =
+          let e : rootAt (p .fields) (p .ancestors) (s .count) x ≡ x = root-is p (s .count) r (fit .most) x l ∙ own in
+          row-exactly p w s fit r k room over (named-root l own through) (overPlan p scratch s x named opening)
+          (sym (over-row p scratch s x named opening c (capacity-is p fit) same l (says-true (says-opening named opening) through) (standing-is p s r) (rooted p s fit r x l) e (λ e. omega arith))
+          ∙ ap (λ (f : ℕ). rootOver p s f x named opening) (tree-is p (s .count) r (fit .most) (in-tree (numbered r (fit .most)) x l)) ∙ above)
+
+    -- a new root over that of the first tree, where there is one
+    pub root-exact : 0 < s .count → GrownExactly c p s (root (rootIn (tableOf p (s .count)) 0) named opening) (addRoot p w scratch s named opening)
+    unfolding addRoot
+    root-exact z =
+        let t : Table = tableOf p (s .count) in
+        let i : InTree (t .layer) (first (t .layer) 0) 0 = in-tree (numbered r (fit .most)) 0 z in
+        let j : InTree (t .layer) (first (t .layer) 0) (rootIn t 0) = root-in r (fit .most) i in
+        let e : first (t .layer) (rootIn t 0) ≡ first (t .layer) 0 = first-is (numbered r (fit .most)) j in
+        row-exactly p w s fit r k room (root (rootIn t 0) named opening) (named-root (j .inUse) (ap (t .root) e) through) (rootPlan p scratch s named opening)
+        (sym (root-row p scratch s named opening c (capacity-is p fit) same (says-true (says-opening named opening) through) (λ e. omega arith) (standing-is p s r) (λ e. omega arith) (rooted p s fit r 0 z))
+        ∙ ap (λ (f : ℕ). rootOver p s f (rootAt (p .fields) (p .ancestors) (s .count) 0) named opening) (tree-is p (s .count) r (fit .most) i ∙ sym e)
+        ∙ ap (λ (x : ℕ). rootOver p s (first (t .layer) (rootIn t 0)) x named opening) (root-is p (s .count) r (fit .most) 0 z)
+        ∙ above (rootIn t 0) (j .inUse) (ap (t .root) e))

@@ -23,7 +23,7 @@ use Rattle.layer.specs.Layer.{layerOf}
 use Rattle.layer.specs.Write.{withField}
 use Rattle.table.specs.Layout.{labelPlace, rootPlace}
 use Rattle.growth_store.specs.Store.{marked}
-use Rattle.renumber_laws.specs.Column.{put, put-same, put-other}
+use Rattle.renumber_laws.specs.Column.{put, put-other}
 use Rattle.renumber_exact.specs.Columns.{Holds, holds-set, set-same, set-other, set-link}
 
 -- fields that agree in the layer's places stand for the same layer
@@ -43,52 +43,56 @@ same-layer f g m a n e = rw rows refl
       e y depthPlace (omega arith),
     ) refl)
 
-module _ {c : ℕ} {f : List ℕ} (h : Holds fieldStride c f) (z label tree : ℕ) where
-  abbrev labelled : List ℕ
-  labelled = withField f z labelPlace label
+module _ {c : ℕ} {f : List ℕ} (h : Holds fieldStride c f) (z labelled label tree : ℕ) where
+  -- the three stores before the last
+  abbrev zeroed : List ℕ
+  zeroed = withField f z labelPlace 0
+
+  abbrev given : List ℕ
+  given = withField zeroed labelled labelPlace label
 
   abbrev cleared : List ℕ
-  cleared = withField labelled z rootPlace none
+  cleared = withField given z rootPlace none
 
-  holds₁ : Holds fieldStride c labelled
-  holds₁ = holds-set h _ _
+  zeroed-holds : Holds fieldStride c zeroed
+  zeroed-holds = holds-set h _ _
 
-  holds₂ : Holds fieldStride c cleared
-  holds₂ = holds-set holds₁ _ _
+  given-holds : Holds fieldStride c given
+  given-holds = holds-set zeroed-holds _ _
 
-  pub marked-holds : Holds fieldStride c (marked f z label tree)
+  cleared-holds : Holds fieldStride c cleared
+  cleared-holds = holds-set given-holds _ _
+
+  pub marked-holds : Holds fieldStride c (marked f z labelled label tree)
   unfolding marked
-  marked-holds = holds-set holds₂ _ _
+  marked-holds = holds-set cleared-holds _ _
 
   -- no other field
-  marked-rest : (y k : ℕ) → k < fieldStride → k ≢ labelPlace → k ≢ rootPlace → fieldAt (marked f z label tree) y k ≡ fieldAt f y k
+  marked-rest : (y k : ℕ) → k < fieldStride → k ≢ labelPlace → k ≢ rootPlace → fieldAt (marked f z labelled label tree) y k ≡ fieldAt f y k
   unfolding marked
-  marked-rest y k b d e = set-other holds₂ tree rootPlace z (omega arith) y k b e ∙ set-other holds₁ z rootPlace none (omega arith) y k b e
-      ∙ set-other h z labelPlace label (omega arith) y k b d
+  marked-rest y k b d e = set-other cleared-holds tree rootPlace z (omega arith) y k b e ∙ set-other given-holds z rootPlace none (omega arith) y k b e
+      ∙ set-other zeroed-holds labelled labelPlace label (omega arith) y k b d ∙ set-other h z labelPlace 0 (omega arith) y k b d
 
-  pub marked-layer : (m a : List ℕ) (n : ℕ) → layerOf (marked f z label tree) m a n ≡ layerOf f m a n
-  marked-layer m a n = same-layer f (marked f z label tree) m a n (λ y k b. marked-rest y k (omega arith) (λ e. omega arith) (λ e. omega arith))
+  pub marked-layer : (m a : List ℕ) (n : ℕ) → layerOf (marked f z labelled label tree) m a n ≡ layerOf f m a n
+  marked-layer m a n = same-layer f (marked f z labelled label tree) m a n (λ y k b. marked-rest y k (omega arith) (λ e. omega arith) (λ e. omega arith))
 
-  -- labels
-  label-after : z < c → (y : ℕ) → fieldAt (marked f z label tree) y labelPlace ≡ put (λ x. fieldAt f x labelPlace) z label y
+  -- labels: 0 at z, then the label at its row, the others as they were
+  pub label-after : z < c → labelled < c → (y : ℕ)
+      → fieldAt (marked f z labelled label tree) y labelPlace ≡ put (put (λ x. fieldAt f x labelPlace) z 0) labelled label y
   unfolding marked
-  label-after l y = set-other holds₂ tree rootPlace z (omega arith) y labelPlace (omega arith) (λ e. omega arith)
-      ∙ set-other holds₁ z rootPlace none (omega arith) y labelPlace (omega arith) (λ e. omega arith)
-      ∙ set-same h z labelPlace label l (omega arith) (λ x. fieldAt f x labelPlace) y refl
-
-  pub label-new : z < c → fieldAt (marked f z label tree) z labelPlace ≡ label
-  label-new l = label-after l z ∙ put-same (λ x. fieldAt f x labelPlace) z label
-
-  pub label-old : z < c → (y : ℕ) → y ≢ z → fieldAt (marked f z label tree) y labelPlace ≡ fieldAt f y labelPlace
-  label-old l y d = label-after l y ∙ put-other (λ x. fieldAt f x labelPlace) z label y d
+  label-after l i y = set-other cleared-holds tree rootPlace z (omega arith) y labelPlace (omega arith) (λ e. omega arith)
+      ∙ set-other given-holds z rootPlace none (omega arith) y labelPlace (omega arith) (λ e. omega arith)
+      ∙ set-same zeroed-holds labelled labelPlace label i (omega arith) (put (λ x. fieldAt f x labelPlace) z 0) y
+      (set-same h z labelPlace 0 l (omega arith) (λ x. fieldAt f x labelPlace) y refl)
 
   -- records of roots: z at `tree`, the others as they were
   cleared-root : z < c → (y : ℕ) → y ≢ z → fieldAt cleared y rootPlace ≡ fieldAt f y rootPlace
-  cleared-root l y d = set-same holds₁ z rootPlace none l (omega arith) (λ x. fieldAt labelled x rootPlace) y refl
-      ∙ put-other (λ x. fieldAt labelled x rootPlace) z none y d
-      ∙ set-other h z labelPlace label (omega arith) y rootPlace (omega arith) (λ e. omega arith)
+  cleared-root l y d = set-same given-holds z rootPlace none l (omega arith) (λ x. fieldAt given x rootPlace) y refl
+      ∙ put-other (λ x. fieldAt given x rootPlace) z none y d
+      ∙ set-other zeroed-holds labelled labelPlace label (omega arith) y rootPlace (omega arith) (λ e. omega arith)
+      ∙ set-other h z labelPlace 0 (omega arith) y rootPlace (omega arith) (λ e. omega arith)
 
   pub root-after : z < c → (tree ≡ none) ⊎ (tree < c) → (y : ℕ) → y < c → y ≢ z
-      → fieldAt (marked f z label tree) y rootPlace ≡ put (λ x. fieldAt f x rootPlace) tree z y
+      → fieldAt (marked f z labelled label tree) y rootPlace ≡ put (λ x. fieldAt f x rootPlace) tree z y
   unfolding marked
-  root-after l i y b d = set-link holds₂ tree rootPlace z i (omega arith) (λ x. fieldAt f x rootPlace) y (λ e. omega (arith, h .most)) (cleared-root l y d)
+  root-after l i y b d = set-link cleared-holds tree rootPlace z i (omega arith) (λ x. fieldAt f x rootPlace) y (λ e. omega (arith, h .most)) (cleared-root l y d)

@@ -6,7 +6,7 @@ use Rattle.layer.specs.Layer.{Layer}
 use Rattle.table.specs.Table.{Table}
 use Rattle.join_laws.specs.JoinStep.{JoinStep}
 use Rattle.join_laws.specs.Extended.{Extended}
-use Rattle.growth_laws.specs.Growth.{Growth, Named, parentOf, labelOf, levelOf, rootAfter}
+use Rattle.growth_laws.specs.Growth.{Growth, Named, parentOf, labelOf, labelAfter, levelOf, rootAfter}
 
 -- row x keeps its label and its level
 pub record SameMarks (t d : Table) (x : ℕ) : Type 0 where
@@ -19,8 +19,9 @@ pub record Grown (t d : Table) (g : Growth) (h : ℕ) : Type 0 where
   pub alone : Layer
   pub extended : Extended (t .layer) alone
   pub step : JoinStep alone (d .layer) (t .layer .count) (parentOf g) h
-  pub marks : (x : ℕ) → x < t .layer .count → SameMarks t d x
+  pub labels : (x : ℕ) → x < t .layer .count → d .label x ≡ labelAfter t g x
   pub labelNew : d .label (t .layer .count) ≡ labelOf g
+  pub levels : (x : ℕ) → x < t .layer .count → d .level x ≡ t .level x
   pub levelNew : d .level (t .layer .count) ≡ levelOf t g
   pub roots : (x : ℕ) → x < t .layer .count → d .root x ≡ rootAfter t g x
 

@@ -1,5 +1,7 @@
--- A growth under a row (01, "Images and plain tree"; 02, "a top then names the source it goes over"): a leaf or a new root, and what it gives the new row.
+-- A growth under a row (01, "Images and plain tree"; 02, "a top then names the source it goes over"): a leaf or a new root, and what it gives the new row and
+-- the old root.
 use mathlib.Core.Path.{_≡_}
+use mathlib.Core.Bool.{Bool, true, false, _&&_}
 use Prim.Native.Nat.{ℕ, _≤_, _<_}
 use lib.IntN.{ℤ, pos, _+ℤ_, _-ℤ_}
 use lib.Dec.{eqb}
@@ -10,34 +12,50 @@ use Rattle.table.specs.Table.{Table}
 use Rattle.table.specs.PlainTree.{root as rootIn}
 use Rattle.table.specs.Rules.{labelLimit}
 
--- a leaf with a parent and a label, or a new root (the paper's top) over a root
+-- a leaf with a parent and a label, or a new root (the paper's top) over a root r, with whether it names an opening, and the opening
 pub data Growth : Type 0 where
   leaf : ℕ → ℕ → Growth
-  root : ℕ → Growth
+  root : (r : ℕ) (named : Bool) (opening : ℕ) → Growth
 
--- what a growth must name to be served: a row in use and a label from 1 to 9,999, or the root of a plain tree
+-- an opening, where one is named, is a label from 1 to 9,999
+pub data Opens : Bool → ℕ → Type 0 where
+  unnamed : {opening : ℕ} → Opens false opening
+  opens : {opening : ℕ} → 1 ≤ opening → opening ≤ labelLimit → Opens true opening
+
+-- what a growth must name to be served: a row in use and a label from 1 to 9,999, or the root of a plain tree and, if any, an opening
 pub data Named (t : Table) : Growth → Type 0 where
   named-leaf : {v f : ℕ} → v < t .layer .count → 1 ≤ f → f ≤ labelLimit → Named t (leaf v f)
-  named-root : {r : ℕ} → r < t .layer .count → rootIn t r ≡ r → Named t (root r)
+  named-root : {r : ℕ} {named : Bool} {opening : ℕ} → r < t .layer .count → rootIn t r ≡ r → Opens named opening → Named t (root r named opening)
 
 -- the row that the stored tree puts the new one under: a new root is stored as a leaf under the old one
 abbrev pub parentOf : Growth → ℕ
 parentOf (leaf v f) = v
-parentOf (root r) = r
+parentOf (root r named opening) = r
 
+-- the label of the new row
 abbrev pub labelOf : Growth → ℕ
 labelOf (leaf v f) = f
-labelOf (root r) = 0
+labelOf (root r named opening) = 0
+
+-- the label of an old row x after the growth (02: "the opening, which becomes the old source's panel")
+abbrev pub labelAfter : Table → Growth → ℕ → ℕ
+labelAfter t (leaf v f) x = t .label x
+labelAfter t (root r named opening) x = pick (named && eqb x r) opening (t .label x)
+
+-- the old root that takes an opening, or none
+abbrev pub openedBy : Growth → ℕ
+openedBy (leaf v f) = none
+openedBy (root r named opening) = pick named r none
 
 -- one below its parent for a leaf, one above the old root for a new root
 abbrev pub levelOf : Table → Growth → ℤ
 levelOf t (leaf v f) = t .level v +ℤ pos 1
-levelOf t (root r) = t .level r -ℤ pos 1
+levelOf t (root r named opening) = t .level r -ℤ pos 1
 
 -- the row whose root record changes, or none
 abbrev pub treeOf : Table → Growth → ℕ
 treeOf t (leaf v f) = none
-treeOf t (root r) = first (t .layer) r
+treeOf t (root r named opening) = first (t .layer) r
 
 -- the root that row x records after the growth
 abbrev pub rootAfter : Table → Growth → ℕ → ℕ

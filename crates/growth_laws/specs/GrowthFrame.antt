@@ -1,5 +1,6 @@
 -- What a growth leaves as it was (02: "Rows outside that head and what lies below it stay unchanged, but for sizes on the chain, the source record, the
--- upper row's next free number and the child links of the parent and its children").
+-- upper row's next free number and the child links of the parent and its children"; "The screen counts the old source's panel among the changes outside the
+-- head").
 use mathlib.Core.Path.{_≡_}
 use mathlib.Core.Logic.{_≢_}
 use Prim.Native.Nat.{ℕ, _+_, _<_}
@@ -9,7 +10,7 @@ use Rattle.table.specs.Table.{Table}
 use Rattle.join_laws.specs.Joined.{SameNode, SamePlace}
 use Rattle.join_laws.specs.Lone.{Kept}
 use Rattle.join_laws.specs.Renumbered.{Below}
-use Rattle.growth_laws.specs.Growth.{Growth, parentOf, treeOf}
+use Rattle.growth_laws.specs.Growth.{Growth, parentOf, openedBy, treeOf}
 use Rattle.growth_laws.specs.Grown.{SameMarks}
 
 -- every number and entry of row x is the same in both
@@ -25,10 +26,12 @@ pub record Outside (t d : Table) (h x : ℕ) : Type 0 where
 
 -- table t, of capacity c, became table d by growth g, whose head is h
 pub record GrowthFrame (c : ℕ) (t d : Table) (g : Growth) (h : ℕ) : Type 0 where
-  -- outside: stored parent and depth; compressed parent, path link, set size, start and entries; label and level
+  -- outside: stored parent and depth; compressed parent, path link, set size, start and entries; level
   pub node : (x : ℕ) → Outside t d h x → SameNode (t .layer) (d .layer) x
   pub place : (x : ℕ) → Outside t d h x → SamePlace (t .layer) (d .layer) x
-  pub marks : (x : ℕ) → Outside t d h x → SameMarks t d x
+  pub level : (x : ℕ) → Outside t d h x → d .level x ≡ t .level x
+  -- the label, but of an old root that takes an opening
+  pub labelKept : (x : ℕ) → Outside t d h x → x ≢ openedBy g → d .label x ≡ t .label x
   -- the size, but on the chain, the rows above the head in the compressed tree, where it is one more
   pub sizeKept : (x : ℕ) → Outside t d h x → ¬ Anc (upper (d .layer)) x h → size (d .layer) x ≡ size (t .layer) x
   pub sizeChain : (x : ℕ) → Outside t d h x → Anc (upper (d .layer)) x h → size (d .layer) x ≡ size (t .layer) x + 1

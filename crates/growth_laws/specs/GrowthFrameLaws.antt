@@ -15,6 +15,7 @@ use Rattle.join_laws.specs.JoinedLinks.{last-child}
 use Rattle.join_laws.specs.KeptLaws.{kept-same, kept-trans}
 use Rattle.join_laws.specs.Lone.{Kept}
 use Rattle.growth_laws.specs.Growth.{Growth, parentOf, treeOf}
+use Rattle.growth_laws.specs.LabelLaws.{label-kept}
 use Rattle.growth_laws.specs.Grown.{Grown}
 use Rattle.growth_laws.specs.GrownLaws.{planted, other}
 use Rattle.growth_laws.specs.GrowthFrame.{Untouched, Outside, GrowthFrame}
@@ -68,7 +69,8 @@ module _ {c : ℕ} {t d : Table} {g : Growth} {h : ℕ} (r : Numbered (t .layer)
   grown-frame = record {
     node = λ x o. node-same o;
     place = λ x o. place-same o;
-    marks = λ x o. k .marks x (o .inUse);
+    level = λ x o. k .levels x (o .inUse);
+    labelKept = λ x o n. k .labels x (o .inUse) ∙ label-kept t g n;
     sizeKept = λ x o n. frame .sizeRest x (old o) (o .apart) n ∙ kept o .sameSize;
     sizeChain = λ x o a. frame .sizeAbove x (old o) (o .apart) a ∙ ap (λ (s : ℕ). s + 1) (kept o .sameSize);
     rootKept = λ x o n. k .roots x (o .inUse) ∙ (rw (says-false (says-eqb x (treeOf t g)) n) refl);

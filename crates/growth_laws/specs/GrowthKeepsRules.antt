@@ -1,5 +1,6 @@
 -- Growth and first nodes keep the rules of inspection, and their plain trees are one step of the plain list on.
 use mathlib.Core.Path.{_≡_, refl, ap, sym, _∙_}
+use mathlib.Core.Bool.{Bool}
 use mathlib.Core.Logic.{_⊎_, inl, inr, _≢_}
 use Prim.Native.Nat.{ℕ, _≤_, _<_}
 use native.Mathlib.Decide.{ℕ-discrete}
@@ -22,7 +23,8 @@ use Rattle.table.specs.Line.{Rooted, OnLine, Level}
 use Rattle.table.specs.Rules.{labelLimit, Rules, numbered, rules-of}
 use Rattle.join_laws.specs.ExtendedLaws.{old-or-new, extended-numbered, extended-parent, extended-lone, extended-older}
 use Rattle.join_laws.specs.Trees.{own-trees, stored, trees-within}
-use Rattle.growth_laws.specs.Growth.{Growth, leaf, root, Named, named-leaf, named-root}
+use Rattle.growth_laws.specs.Growth.{Growth, leaf, root, Opens, Named, named-leaf, named-root}
+use Rattle.growth_laws.specs.LabelLaws.{label-other, label-most}
 use Rattle.growth_laws.specs.Grown.{Grown, Started}
 use Rattle.growth_laws.specs.GrownLaws.{growth-numbered, growth-count, parent-old, parent-new, growth-older, new-some}
 use Rattle.growth_laws.specs.PlainStep.{PlainStep, PlainStart}
@@ -48,13 +50,13 @@ module _ {capacity : ℕ} {t d : Table} {v f h : ℕ} (r : Rules capacity t) (sm
         λ o. omega arith,
         rw e record {
           some = new-some num k;
-          below = rw (parent-new num k, k .marks v l .sameLevel) (k .levelNew);
+          below = rw (parent-new num k, k .levels v l) (k .levelNew);
           labelled = rw (k .labelNew) j;
         },
       )
     ];
-    sameLevel = λ x b. k .marks x b .sameLevel;
-    sameLabel = λ x b. k .marks x b .sameLabel;
+    sameLevel = k .levels;
+    sameLabel = k .labels;
     sameRoot = λ x b _. leaf-root x b;
     rootKept = λ x b e. r .one .lines .root x b e .inUse;
   }
@@ -67,14 +69,14 @@ module _ {capacity : ℕ} {t d : Table} {v f h : ℕ} (r : Rules capacity t) (sm
     count = growth-count num k;
     parentOld = plain-old r small (growth-numbered num k) leaf-grows;
     parentNew = plain-joined r small (growth-numbered num k) leaf-grows (t .layer .count) (omega (arith, growth-count num k)) (λ o. omega arith) ∙ parent-new num k;
-    labelOld = λ x b. k .marks x b .sameLabel;
+    labelOld = k .labels;
     labelNew = k .labelNew;
   }
 
 -- A new root
 
-module _ {capacity : ℕ} {t d : Table} {q h : ℕ} (r : Rules capacity t) (small : capacity ≤ nodeLimit) (room : t .layer .count < capacity)
-    (l : q < t .layer .count) (own : rootIn t q ≡ q) (k : Grown t d (root q) h) where
+module _ {capacity : ℕ} {t d : Table} {q opening h : ℕ} {named : Bool} (r : Rules capacity t) (small : capacity ≤ nodeLimit) (room : t .layer .count < capacity)
+    (l : q < t .layer .count) (own : rootIn t q ≡ q) (through : Opens named opening) (k : Grown t d (root q named opening) h) where
   numq : Numbered (t .layer)
   numq = numbered r small
 
@@ -169,18 +171,25 @@ module _ {capacity : ℕ} {t d : Table} {q h : ℕ} (r : Rules capacity t) (smal
         let y = r .one .lines .level x o in
         let up : parent (d .layer) x ≡ parent (t .layer) x = parent-old numq k x o in
         record {
-          first = λ e. k .marks x o .sameLevel ∙ y .first (sym up ∙ e);
+          first = λ e. k .levels x o ∙ y .first (sym up ∙ e);
           onLine = λ g p. let i : parent (t .layer) x ≢ none = λ z. g (up ∙ z) in
-              rw (k .marks x o .sameLevel, up, k .marks (parent (t .layer) x) (was .inside x o i) .sameLevel) (y .onLine i (line-from o p));
+              rw (k .levels x o, up, k .levels (parent (t .layer) x) (was .inside x o i)) (y .onLine i (line-from o p));
           offLine = λ g p. let i : parent (t .layer) x ≢ none = λ z. g (up ∙ z) in
-              rw (k .marks x o .sameLevel, up, k .marks (parent (t .layer) x) (was .inside x o i) .sameLevel) (y .offLine i (λ s. p (line-to o s)));
+              rw (k .levels x o, up, k .levels (parent (t .layer) x) (was .inside x o i)) (y .offLine i (λ s. p (line-to o s)));
         }
     | inr e ↦ rw e record {
       first = λ z. absurd (new-some numq k z);
-      onLine = λ _ _. rw (parent-new numq k, k .marks q l .sameLevel) (k .levelNew);
+      onLine = λ _ _. rw (parent-new numq k, k .levels q l) (k .levelNew);
       offLine = λ _ p. absurd (p line-new);
     }
   ]
+
+  -- the root of another tree is another row
+  other-root : {x : ℕ} → x < t .layer .count → parent (t .layer) x ≡ none → x ≢ f → t .root x ≢ q
+  unfolding f
+  other-root {x} o e n z =
+      let s = r .one .lines .root x o e in
+      n (sym (top-is was (s .inUse) (record { over = s .over; top = e })) ∙ ap (first (t .layer)) z)
 
   root-rules : Rules capacity d
   root-rules = rules-of record {
@@ -188,14 +197,14 @@ module _ {capacity : ℕ} {t d : Table} {q h : ℕ} (r : Rules capacity t) (smal
     lines = record { root = rooted; level = levels };
     labels = record {
       most = λ x b. elim (old-or-new (growth-count numq k) x b) [
-        | inl o ↦ rw (k .marks x o .sameLabel) (r .one .labels .most x o)
+        | inl o ↦ rw (k .labels x o) (label-most t q through (r .one .labels .most x o))
         | inr e ↦ rw (e, k .labelNew) (omega arith)
       ];
       root = λ x b e. let o = first-old b e in elim (ℕ-discrete x f) [
         | yes z ↦ ap (λ (y : ℕ). d .label (d .root y)) z ∙ ap (d .label) root-here ∙ k .labelNew
         | no n ↦
             let w = sym (parent-old numq k x o) ∙ e in
-            ap (d .label) (root-other x o n) ∙ k .marks (t .root x) (r .one .lines .root x o w .inUse) .sameLabel ∙ r .one .labels .root x o w
+            ap (d .label) (root-other x o n) ∙ k .labels (t .root x) (r .one .lines .root x o w .inUse) ∙ label-other t q named opening (other-root o w n) ∙ r .one .labels .root x o w
       ];
     };
   } (growth-numbered numq k)
@@ -232,12 +241,12 @@ module _ {capacity : ℕ} {t d : Table} {q h : ℕ} (r : Rules capacity t) (smal
       let z : rootIn d (t .layer .count) ≡ t .layer .count = ap (d .root) (top-is now new-in first-new) ∙ root-here in
       ap (λ (y : ℕ). plainParent (parent (d .layer)) (depth (d .layer)) y (t .layer .count)) z ∙ plain-is now new-in new-in top
 
-  root-plain : PlainStep t d (root q)
+  root-plain : PlainStep t d (root q named opening)
   root-plain = record {
     count = growth-count numq k;
     parentOld = λ x b. elim (ℕ-discrete (first (t .layer) x) f) [ yes e ↦ plain-here x b e | no n ↦ plain-there x b n ];
     parentNew = plain-new;
-    labelOld = λ x b. k .marks x b .sameLabel;
+    labelOld = k .labels;
     labelNew = k .labelNew;
   }
 
@@ -353,11 +362,11 @@ module _ {capacity : ℕ} {t d : Table} {h : ℕ} (r : Rules capacity t) (small 
     where
       go : {g : Growth} → Named t g → Grown t d g h → Rules capacity d
       go (named-leaf l i j) k = leaf-rules r small room l i j k
-      go (named-root l e) k = root-rules r small room l e k
+      go (named-root l e o) k = root-rules r small room l e o k
 
   pub growth-plain : {g : Growth} → Grown t d g h → PlainStep t d g
   growth-plain {g} k = go (k .named) k
     where
       go : {g : Growth} → Named t g → Grown t d g h → PlainStep t d g
       go (named-leaf l i j) k = leaf-plain r small room l i j k
-      go (named-root l e) k = root-plain r small room l e k
+      go (named-root l e o) k = root-plain r small room l e o k

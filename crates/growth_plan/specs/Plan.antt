@@ -1,6 +1,6 @@
--- What a growth decides before its first store: the refusals in their order (first node 3, 2, 4; leaf 3, 1, 5, 2, 4; new root over x 3, 1, 4, 10, 2,
--- 4; 01's new root 3, 2, 4), then the plan of a row that joins.
-use mathlib.Core.Bool.{Bool, _&&_, not}
+-- What a growth decides before its first store: the refusals in their order (first node 3, 2, 4; leaf 3, 1, 5, 2, 4; new root over x 3, 1, 5, 4, 10, 2,
+-- 4; 01's new root 3, 5, 2, 4), then the plan of a row that joins.
+use mathlib.Core.Bool.{Bool, true, false, _&&_, not}
 use Prim.Native.Nat.{ℕ}
 use lib.Dec.{eqb, leb, ltb}
 use lib.IntN.{pos, _+ℤ_, _-ℤ_}
@@ -26,6 +26,11 @@ provided b r p = pick b p (Refuse r)
 abbrev pub isLabel : ℕ → Bool
 isLabel label = leb 1 label && leb label labelLimit
 
+-- an opening, the label that an old root takes, is looked at where one is named (02: "refusal 5 applies where it does")
+abbrev pub isOpening : Bool → ℕ → Bool
+isOpening true opening = isLabel opening
+isOpening false opening = true
+
 -- a leaf in parts that fit the capacity c; the root of the parent's tree is looked at, 01's "source not below the count"
 unfoldable pub leafWithin : Parts → ℕ → ℕ → State → ℕ → ℕ → Planned
 leafWithin t c scratch s parent label =
@@ -36,7 +41,7 @@ leafWithin t c scratch s parent label =
     (provided (isStanding c s) Corrupt
     (provided (not (eqb (rootAt (t .fields) (t .ancestors) (s .count) parent) none)) Corrupt
     (onLevel (levelFrom (levelAt (t .levels) parent) (levelAt (t .levels) parent +ℤ pos 1))
-    (λ level. plannedRow (t .fields) (t .numbers) (t .ancestors) (s .count) (s .count) parent level label none)
+    (λ level. plannedRow (t .fields) (t .numbers) (t .ancestors) (s .count) (s .count) parent level (s .count) label none)
     (Refuse Corrupt)))))))
 
 -- a leaf of this label under this parent, with a scratch of this length
@@ -54,37 +59,39 @@ firstWithin c scratch s =
 unfoldable pub firstPlan : Parts → ℕ → State → Planned
 firstPlan t scratch s = onFit (capacityOf t) (λ c. firstWithin c scratch s) (Refuse Misfit)
 
--- a new root over r, the root of the tree whose first row is tree
-unfoldable pub rootOver : Parts → State → ℕ → ℕ → Planned
-rootOver t s tree r =
+-- a new root over r, the root of the tree whose first row is tree: where an opening is named, r takes it as its label, else the new row takes label 0
+unfoldable pub rootOver : Parts → State → ℕ → ℕ → Bool → ℕ → Planned
+rootOver t s tree r named opening =
     onLevel (levelFrom (levelAt (t .levels) r) (levelAt (t .levels) r -ℤ pos 1))
-    (λ level. plannedRow (t .fields) (t .numbers) (t .ancestors) (s .count) (s .count) r level 0 tree)
+    (λ level. plannedRow (t .fields) (t .numbers) (t .ancestors) (s .count) (s .count) r level (pick named r (s .count)) (pick named opening 0) tree)
     (Refuse Corrupt)
 
 -- a new root over x in parts that fit the capacity c
-unfoldable pub overWithin : Parts → ℕ → ℕ → State → ℕ → Planned
-overWithin t c scratch s x =
+unfoldable pub overWithin : Parts → ℕ → ℕ → State → ℕ → Bool → ℕ → Planned
+overWithin t c scratch s x named opening =
     provided (eqb scratch c) Misfit
     (provided (ltb x (s .count)) UnknownNode
+    (provided (isOpening named opening) BadLabel
     (provided (isStanding c s) Corrupt
     (provided (not (eqb (rootAt (t .fields) (t .ancestors) (s .count) x) none)) Corrupt
     (provided (eqb (rootAt (t .fields) (t .ancestors) (s .count) x) x) NotRoot
     (provided (not (eqb (s .count) c)) Full
-    (rootOver t s (treeAt (t .ancestors) (s .count) x) x))))))
+    (rootOver t s (treeAt (t .ancestors) (s .count) x) x named opening)))))))
 
-unfoldable pub overPlan : Parts → ℕ → State → ℕ → Planned
-overPlan t scratch s x = onFit (capacityOf t) (λ c. overWithin t c scratch s x) (Refuse Misfit)
+unfoldable pub overPlan : Parts → ℕ → State → ℕ → Bool → ℕ → Planned
+overPlan t scratch s x named opening = onFit (capacityOf t) (λ c. overWithin t c scratch s x named opening) (Refuse Misfit)
 
 -- a first node where there is none, else a new root over the root of the first tree, that of row 0, in parts that fit the capacity c (01's; 02, "a
--- log and a byte tree keep to the first tree")
-unfoldable pub rootWithin : Parts → ℕ → ℕ → State → Planned
-rootWithin t c scratch s =
+-- log and a byte tree keep to the first tree"; "On an empty tree a named opening is checked and otherwise unused")
+unfoldable pub rootWithin : Parts → ℕ → ℕ → State → Bool → ℕ → Planned
+rootWithin t c scratch s named opening =
     provided (eqb scratch c) Misfit
+    (provided (isOpening named opening) BadLabel
     (provided (not (eqb (s .count) c)) Full
     (provided (isStanding c s) Corrupt
     (pick (eqb (s .count) 0) (Start 0)
     (provided (not (eqb (rootAt (t .fields) (t .ancestors) (s .count) 0) none)) Corrupt
-    (rootOver t s (treeAt (t .ancestors) (s .count) 0) (rootAt (t .fields) (t .ancestors) (s .count) 0))))))
+    (rootOver t s (treeAt (t .ancestors) (s .count) 0) (rootAt (t .fields) (t .ancestors) (s .count) 0) named opening))))))
 
-unfoldable pub rootPlan : Parts → ℕ → State → Planned
-rootPlan t scratch s = onFit (capacityOf t) (λ c. rootWithin t c scratch s) (Refuse Misfit)
+unfoldable pub rootPlan : Parts → ℕ → State → Bool → ℕ → Planned
+rootPlan t scratch s named opening = onFit (capacityOf t) (λ c. rootWithin t c scratch s named opening) (Refuse Misfit)

@@ -1,6 +1,6 @@
 -- The answers of a plan, each from the facts that lead to it.
 use mathlib.Core.Path.{_≡_, _∙_, sym, ap}
-use mathlib.Core.Bool.{true, false}
+use mathlib.Core.Bool.{Bool, true, false}
 use mathlib.Core.Logic.{_≢_}
 use mathlib.Core.List.{List}
 use Prim.Native.Nat.{ℕ, _≤_, _<_}
@@ -8,7 +8,7 @@ use native.Mathlib.Nat.{mul-le-mul-right}
 use native.Mathlib.Omega.{arith}
 use lib.IntN.{ℤ, pos, _+ℤ_, _-ℤ_}
 use borrow.Author.Tests.{eq-eqb, ne-eqb, lt-ltb, le-ltb}
-use Rattle.laws.specs.Test.{says-get}
+use Rattle.laws.specs.Test.{pick, says-get}
 use Rattle.tree_laws.specs.Ancestor.{none}
 use Rattle.table.specs.declared.capacity.Fit.the-variants.{Capacity, Misfit as NoFit}
 use Rattle.table.specs.declared.refusal.Refusal.the-variants.{UnknownNode, Full, Misfit, Corrupt, BadLabel, NotRoot}
@@ -27,6 +27,7 @@ use Rattle.growth_plan.specs.declared.level.Level.the-variants.{At, Out}
 use Rattle.growth_plan.specs.Level.{levelFrom}
 use Rattle.growth_plan.specs.Plan.{
   isLabel,
+  isOpening,
   leafWithin,
   leafPlan,
   firstWithin,
@@ -95,7 +96,7 @@ module _ (t : Parts) (scratch : ℕ) (s : State) (p label : ℕ) where
                 leaf-out h = rw (← fit, eq-eqb scratch c a, lt-ltb p (s .count) b, d, ne-eqb (s .count) c e, g, ne-eqb (rootAt (t .fields) (t .ancestors) (s .count) p) none r, ← h)
 
                 pub leaf-row : (z : ℤ) → At z ≡ levelFrom (levelAt (t .levels) p) (levelAt (t .levels) p +ℤ pos 1)
-                    → plannedRow (t .fields) (t .numbers) (t .ancestors) (s .count) (s .count) p z label none ≡ leafPlan t scratch s p label
+                    → plannedRow (t .fields) (t .numbers) (t .ancestors) (s .count) (s .count) p z (s .count) label none ≡ leafPlan t scratch s p label
                 unfolding leafPlan leafWithin
                 leaf-row z h = rw (← fit, eq-eqb scratch c a, lt-ltb p (s .count) b, d, ne-eqb (s .count) c e, g, ne-eqb (rootAt (t .fields) (t .ancestors) (s .count) p) none r, ← h)
 
@@ -127,88 +128,98 @@ module _ (t : Parts) (scratch : ℕ) (s : State) where
 
 -- a new root --------------------------------------------------------------------------
 
-module _ (t : Parts) (s : State) (tree r : ℕ) where
-  pub above-out : Out ≡ levelFrom (levelAt (t .levels) r) (levelAt (t .levels) r -ℤ pos 1) → Refuse Corrupt ≡ rootOver t s tree r
+module _ (t : Parts) (s : State) (tree r : ℕ) (named : Bool) (opening : ℕ) where
+  pub above-out : Out ≡ levelFrom (levelAt (t .levels) r) (levelAt (t .levels) r -ℤ pos 1) → Refuse Corrupt ≡ rootOver t s tree r named opening
   unfolding rootOver
   above-out h = rw (← h)
 
   pub above-row : (y : ℤ) → At y ≡ levelFrom (levelAt (t .levels) r) (levelAt (t .levels) r -ℤ pos 1)
-      → plannedRow (t .fields) (t .numbers) (t .ancestors) (s .count) (s .count) r y 0 tree ≡ rootOver t s tree r
+      → plannedRow (t .fields) (t .numbers) (t .ancestors) (s .count) (s .count) r y (pick named r (s .count)) (pick named opening 0) tree ≡ rootOver t s tree r named opening
   unfolding rootOver
   above-row y h = rw (← h)
 
 -- over x
-module _ (t : Parts) (scratch : ℕ) (s : State) (x : ℕ) where
-  pub over-misfit : NoFit ≡ capacityOf t → Refuse Misfit ≡ overPlan t scratch s x
+module _ (t : Parts) (scratch : ℕ) (s : State) (x : ℕ) (named : Bool) (opening : ℕ) where
+  pub over-misfit : NoFit ≡ capacityOf t → Refuse Misfit ≡ overPlan t scratch s x named opening
   unfolding overPlan
   over-misfit e = rw (← e)
 
   module _ (c : ℕ) (fit : Capacity c ≡ capacityOf t) where
-    pub over-scratch : scratch ≢ c → Refuse Misfit ≡ overPlan t scratch s x
+    pub over-scratch : scratch ≢ c → Refuse Misfit ≡ overPlan t scratch s x named opening
     unfolding overPlan overWithin
     over-scratch a = rw (← fit, ne-eqb scratch c a)
 
     module _ (a : scratch ≡ c) where
-      pub over-unknown : s .count ≤ x → Refuse UnknownNode ≡ overPlan t scratch s x
+      pub over-unknown : s .count ≤ x → Refuse UnknownNode ≡ overPlan t scratch s x named opening
       unfolding overPlan overWithin
       over-unknown b = rw (← fit, eq-eqb scratch c a, le-ltb x (s .count) b)
 
       module _ (b : x < s .count) where
-        pub over-fallen : isStanding c s ≡ false → Refuse Corrupt ≡ overPlan t scratch s x
+        pub over-label : isOpening named opening ≡ false → Refuse BadLabel ≡ overPlan t scratch s x named opening
         unfolding overPlan overWithin
-        over-fallen g = rw (← fit, eq-eqb scratch c a, lt-ltb x (s .count) b, g)
+        over-label d = rw (← fit, eq-eqb scratch c a, lt-ltb x (s .count) b, d)
 
-        module _ (g : isStanding c s ≡ true) where
-          pub over-lost : rootAt (t .fields) (t .ancestors) (s .count) x ≡ none → Refuse Corrupt ≡ overPlan t scratch s x
+        module _ (d : isOpening named opening ≡ true) where
+          pub over-fallen : isStanding c s ≡ false → Refuse Corrupt ≡ overPlan t scratch s x named opening
           unfolding overPlan overWithin
-          over-lost r = rw (← fit, eq-eqb scratch c a, lt-ltb x (s .count) b, g, eq-eqb (rootAt (t .fields) (t .ancestors) (s .count) x) none r)
+          over-fallen g = rw (← fit, eq-eqb scratch c a, lt-ltb x (s .count) b, d, g)
 
-          module _ (r : rootAt (t .fields) (t .ancestors) (s .count) x ≢ none) where
-            pub over-other : rootAt (t .fields) (t .ancestors) (s .count) x ≢ x → Refuse NotRoot ≡ overPlan t scratch s x
+          module _ (g : isStanding c s ≡ true) where
+            pub over-lost : rootAt (t .fields) (t .ancestors) (s .count) x ≡ none → Refuse Corrupt ≡ overPlan t scratch s x named opening
             unfolding overPlan overWithin
-            over-other o = rw (← fit, eq-eqb scratch c a, lt-ltb x (s .count) b, g, ne-eqb (rootAt (t .fields) (t .ancestors) (s .count) x) none r, ne-eqb (rootAt (t .fields) (t .ancestors) (s .count) x) x o)
+            over-lost r = rw (← fit, eq-eqb scratch c a, lt-ltb x (s .count) b, d, g, eq-eqb (rootAt (t .fields) (t .ancestors) (s .count) x) none r)
 
-            module _ (o : rootAt (t .fields) (t .ancestors) (s .count) x ≡ x) where
-              pub over-full : s .count ≡ c → Refuse Full ≡ overPlan t scratch s x
+            module _ (r : rootAt (t .fields) (t .ancestors) (s .count) x ≢ none) where
+              pub over-other : rootAt (t .fields) (t .ancestors) (s .count) x ≢ x → Refuse NotRoot ≡ overPlan t scratch s x named opening
               unfolding overPlan overWithin
-              over-full e = rw (← fit, eq-eqb scratch c a, lt-ltb x (s .count) b, g, ne-eqb (rootAt (t .fields) (t .ancestors) (s .count) x) none r, eq-eqb (rootAt (t .fields) (t .ancestors) (s .count) x) x o, eq-eqb (s .count) c e)
+              over-other o = rw (← fit, eq-eqb scratch c a, lt-ltb x (s .count) b, d, g, ne-eqb (rootAt (t .fields) (t .ancestors) (s .count) x) none r, ne-eqb (rootAt (t .fields) (t .ancestors) (s .count) x) x o)
 
-              pub over-row : s .count ≢ c → rootOver t s (treeAt (t .ancestors) (s .count) x) x ≡ overPlan t scratch s x
-              unfolding overPlan overWithin
-              over-row e = rw (← fit, eq-eqb scratch c a, lt-ltb x (s .count) b, g, ne-eqb (rootAt (t .fields) (t .ancestors) (s .count) x) none r, eq-eqb (rootAt (t .fields) (t .ancestors) (s .count) x) x o, ne-eqb (s .count) c e)
+              module _ (o : rootAt (t .fields) (t .ancestors) (s .count) x ≡ x) where
+                pub over-full : s .count ≡ c → Refuse Full ≡ overPlan t scratch s x named opening
+                unfolding overPlan overWithin
+                over-full e = rw (← fit, eq-eqb scratch c a, lt-ltb x (s .count) b, d, g, ne-eqb (rootAt (t .fields) (t .ancestors) (s .count) x) none r, eq-eqb (rootAt (t .fields) (t .ancestors) (s .count) x) x o, eq-eqb (s .count) c e)
+
+                pub over-row : s .count ≢ c → rootOver t s (treeAt (t .ancestors) (s .count) x) x named opening ≡ overPlan t scratch s x named opening
+                unfolding overPlan overWithin
+                over-row e = rw (← fit, eq-eqb scratch c a, lt-ltb x (s .count) b, d, g, ne-eqb (rootAt (t .fields) (t .ancestors) (s .count) x) none r, eq-eqb (rootAt (t .fields) (t .ancestors) (s .count) x) x o, ne-eqb (s .count) c e)
 
 -- over the root of the first tree
-module _ (t : Parts) (scratch : ℕ) (s : State) where
-  pub root-misfit : NoFit ≡ capacityOf t → Refuse Misfit ≡ rootPlan t scratch s
+module _ (t : Parts) (scratch : ℕ) (s : State) (named : Bool) (opening : ℕ) where
+  pub root-misfit : NoFit ≡ capacityOf t → Refuse Misfit ≡ rootPlan t scratch s named opening
   unfolding rootPlan
   root-misfit e = rw (← e)
 
   module _ (c : ℕ) (fit : Capacity c ≡ capacityOf t) where
-    pub root-scratch : scratch ≢ c → Refuse Misfit ≡ rootPlan t scratch s
+    pub root-scratch : scratch ≢ c → Refuse Misfit ≡ rootPlan t scratch s named opening
     unfolding rootPlan rootWithin
     root-scratch a = rw (← fit, ne-eqb scratch c a)
 
     module _ (a : scratch ≡ c) where
-      pub root-full : s .count ≡ c → Refuse Full ≡ rootPlan t scratch s
+      pub root-label : isOpening named opening ≡ false → Refuse BadLabel ≡ rootPlan t scratch s named opening
       unfolding rootPlan rootWithin
-      root-full e = rw (← fit, eq-eqb scratch c a, eq-eqb (s .count) c e)
+      root-label d = rw (← fit, eq-eqb scratch c a, d)
 
-      module _ (e : s .count ≢ c) where
-        pub root-fallen : isStanding c s ≡ false → Refuse Corrupt ≡ rootPlan t scratch s
+      module _ (d : isOpening named opening ≡ true) where
+        pub root-full : s .count ≡ c → Refuse Full ≡ rootPlan t scratch s named opening
         unfolding rootPlan rootWithin
-        root-fallen g = rw (← fit, eq-eqb scratch c a, ne-eqb (s .count) c e, g)
+        root-full e = rw (← fit, eq-eqb scratch c a, d, eq-eqb (s .count) c e)
 
-        module _ (g : isStanding c s ≡ true) where
-          pub root-first : s .count ≡ 0 → Start 0 ≡ rootPlan t scratch s
+        module _ (e : s .count ≢ c) where
+          pub root-fallen : isStanding c s ≡ false → Refuse Corrupt ≡ rootPlan t scratch s named opening
           unfolding rootPlan rootWithin
-          root-first z = rw (← fit, eq-eqb scratch c a, ne-eqb (s .count) c e, g, eq-eqb (s .count) 0 z)
+          root-fallen g = rw (← fit, eq-eqb scratch c a, d, ne-eqb (s .count) c e, g)
 
-          module _ (z : s .count ≢ 0) where
-            pub root-lost : rootAt (t .fields) (t .ancestors) (s .count) 0 ≡ none → Refuse Corrupt ≡ rootPlan t scratch s
+          module _ (g : isStanding c s ≡ true) where
+            pub root-first : s .count ≡ 0 → Start 0 ≡ rootPlan t scratch s named opening
             unfolding rootPlan rootWithin
-            root-lost r = rw (← fit, eq-eqb scratch c a, ne-eqb (s .count) c e, g, ne-eqb (s .count) 0 z, eq-eqb (rootAt (t .fields) (t .ancestors) (s .count) 0) none r)
+            root-first z = rw (← fit, eq-eqb scratch c a, d, ne-eqb (s .count) c e, g, eq-eqb (s .count) 0 z)
 
-            pub root-row : rootAt (t .fields) (t .ancestors) (s .count) 0 ≢ none
-                → rootOver t s (treeAt (t .ancestors) (s .count) 0) (rootAt (t .fields) (t .ancestors) (s .count) 0) ≡ rootPlan t scratch s
-            unfolding rootPlan rootWithin
-            root-row r = rw (← fit, eq-eqb scratch c a, ne-eqb (s .count) c e, g, ne-eqb (s .count) 0 z, ne-eqb (rootAt (t .fields) (t .ancestors) (s .count) 0) none r)
+            module _ (z : s .count ≢ 0) where
+              pub root-lost : rootAt (t .fields) (t .ancestors) (s .count) 0 ≡ none → Refuse Corrupt ≡ rootPlan t scratch s named opening
+              unfolding rootPlan rootWithin
+              root-lost r = rw (← fit, eq-eqb scratch c a, d, ne-eqb (s .count) c e, g, ne-eqb (s .count) 0 z, eq-eqb (rootAt (t .fields) (t .ancestors) (s .count) 0) none r)
+
+              pub root-row : rootAt (t .fields) (t .ancestors) (s .count) 0 ≢ none
+                  → rootOver t s (treeAt (t .ancestors) (s .count) 0) (rootAt (t .fields) (t .ancestors) (s .count) 0) named opening ≡ rootPlan t scratch s named opening
+              unfolding rootPlan rootWithin
+              root-row r = rw (← fit, eq-eqb scratch c a, d, ne-eqb (s .count) c e, g, ne-eqb (s .count) 0 z, ne-eqb (rootAt (t .fields) (t .ancestors) (s .count) 0) none r)

@@ -7,7 +7,7 @@ use Rattle.join.specs.Seat.{seatOf, onSeat}
 use Rattle.growth_plan.specs.declared.row.Planned.{Planned}
 use Rattle.growth_plan.specs.declared.row.Planned.the-variants.{Grow, Refuse}
 
--- of the row z as a leaf under p, of this level and label; `tree` will record it as a root, if it is a row
-unfoldable pub plannedRow : List ℕ → List ℕ → List ℕ → ℕ → ℕ → ℕ → ℤ → ℕ → ℕ → Planned
-plannedRow f m a n z p level label tree =
-    onSeat (seatOf f m a n z p) (λ s. Grow (record { seat = s; level = level; label = label; tree = tree })) (Refuse Corrupt)
+-- of the row z as a leaf under p, of this level; the row `labelled` will take this label, and `tree` will record z as a root, if it is a row
+unfoldable pub plannedRow : List ℕ → List ℕ → List ℕ → ℕ → ℕ → ℕ → ℤ → ℕ → ℕ → ℕ → Planned
+plannedRow f m a n z p level labelled label tree =
+    onSeat (seatOf f m a n z p) (λ s. Grow (record { seat = s; level = level; labelled = labelled; label = label; tree = tree })) (Refuse Corrupt)

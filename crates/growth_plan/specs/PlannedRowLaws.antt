@@ -10,12 +10,12 @@ use Rattle.join.specs.Seat.{seatOf}
 use Rattle.growth_plan.specs.declared.row.Planned.the-variants.{Grow, Refuse}
 use Rattle.growth_plan.specs.PlannedRow.{plannedRow}
 
-module _ (f m a : List ℕ) (n z p : ℕ) (level : ℤ) (label tree : ℕ) where
-  pub no-seat : Astray ≡ seatOf f m a n z p → Refuse Corrupt ≡ plannedRow f m a n z p level label tree
+module _ (f m a : List ℕ) (n z p : ℕ) (level : ℤ) (labelled label tree : ℕ) where
+  pub no-seat : Astray ≡ seatOf f m a n z p → Refuse Corrupt ≡ plannedRow f m a n z p level labelled label tree
   unfolding plannedRow
   no-seat e = rw (← e)
 
   pub on-seat : (s : Seat) → At s ≡ seatOf f m a n z p
-      → Grow (record { seat = s; level = level; label = label; tree = tree }) ≡ plannedRow f m a n z p level label tree
+      → Grow (record { seat = s; level = level; labelled = labelled; label = label; tree = tree }) ≡ plannedRow f m a n z p level labelled label tree
   unfolding plannedRow
   on-seat s e = rw (← e)

@@ -70,6 +70,7 @@ pub fn plan_leaf(
         state.count,
         parent,
         at,
+        state.count,
         label,
         NONE,
     )

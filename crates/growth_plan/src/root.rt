@@ -1,4 +1,5 @@
 // A new root before the first store: its refusals in their order, and its plan.
+use crate::leaf::is_label;
 use crate::level::Level;
 use crate::level::root_level;
 use crate::row::Planned;
@@ -14,11 +15,32 @@ use table::tree::root_of;
 use table::tree::tree_of;
 ghost use mathlib.Core.Path.{_≡_};
 ghost use lib.ListN.{length};
+ghost use Rattle.laws.specs.Test.{pick};
 ghost use Rattle.table.specs.Parts.{partsOf};
 ghost use Rattle.layer.specs.Checked.{Holds};
-ghost use Rattle.growth_plan.specs.Plan.{firstPlan, overPlan, rootOver, rootPlan};
+ghost use Rattle.growth_plan.specs.Plan.{firstPlan, isOpening, overPlan, rootOver, rootPlan};
 
-// The plan of a new root over r, the root of the tree whose first row is `tree`.
+// The label of an opening (the paper's word for what an old root is seen through), where one is named; else its number is not looked at.
+fn is_opening(named: bool, opening: u16) -> bool
+    ensures { λ r. ⌜ r ≡ isOpening named opening ⌝ }
+{
+    if named {
+        return is_label(opening);
+    }
+    true
+}
+
+// By whether an opening is named.
+fn if_named(named: bool, yes: u16, no: u16) -> u16
+    ensures { λ r. ⌜ r ≡ pick named yes no ⌝ }
+{
+    if named {
+        return yes;
+    }
+    no
+}
+
+// The plan of a new root over r, the root of the tree whose first row is `tree`: r takes the opening, where one is named, as its label.
 fn plan_above(
     fields: &[u16],
     numbers: &[u64],
@@ -27,9 +49,11 @@ fn plan_above(
     state: State,
     tree: u16,
     r: u16,
+    named: bool,
+    opening: u16,
 ) -> Planned
     requires { ⌜ Holds (state .count) (now fields) (now numbers) ⌝ }
-    ensures { λ o. ⌜ o ≡ rootOver (partsOf (now (fields .entry)) (now (numbers .entry)) (now (levels .entry)) (now (ancestors .entry))) state tree r ⌝ }
+    ensures { λ o. ⌜ o ≡ rootOver (partsOf (now (fields .entry)) (now (numbers .entry)) (now (levels .entry)) (now (ancestors .entry))) state tree r named opening ⌝ }
 {
     let Level::At(at) = root_level(level(levels, r)) else {
         return Planned::Refuse(Refusal::Corrupt);
@@ -42,7 +66,8 @@ fn plan_above(
         state.count,
         r,
         at,
-        0,
+        if_named(named, r, state.count),
+        if_named(named, opening, 0),
         tree,
     )
 }
@@ -82,8 +107,10 @@ pub fn plan_over(
     scratch: &[u16],
     state: State,
     x: u16,
+    named: bool,
+    opening: u16,
 ) -> Planned
-    ensures { λ r. ⌜ r ≡ overPlan (partsOf (now (fields .entry)) (now (numbers .entry)) (now (levels .entry)) (now (ancestors .entry))) (length (now (scratch .entry))) state x ⌝ }
+    ensures { λ r. ⌜ r ≡ overPlan (partsOf (now (fields .entry)) (now (numbers .entry)) (now (levels .entry)) (now (ancestors .entry))) (length (now (scratch .entry))) state x named opening ⌝ }
 {
     let Fit::Capacity(cap) = capacity(fields, numbers, levels, ancestors) else {
         return Planned::Refuse(Refusal::Misfit);
@@ -93,6 +120,9 @@ pub fn plan_over(
     }
     if state.count <= x {
         return Planned::Refuse(Refusal::UnknownNode);
+    }
+    if !is_opening(named, opening) {
+        return Planned::Refuse(Refusal::BadLabel);
     }
     if !is_standing(cap, state) {
         return Planned::Refuse(Refusal::Corrupt);
@@ -108,7 +138,17 @@ pub fn plan_over(
     if (state.count as usize) == cap {
         return Planned::Refuse(Refusal::Full);
     }
-    plan_above(fields, numbers, levels, ancestors, state, tree, x)
+    plan_above(
+        fields,
+        numbers,
+        levels,
+        ancestors,
+        state,
+        tree,
+        x,
+        named,
+        opening,
+    )
 }
 
 // Why a new root over that of the first tree, that of row 0, is refused, or its plan.
@@ -119,14 +159,19 @@ pub fn plan_root(
     ancestors: &[u16],
     scratch: &[u16],
     state: State,
+    named: bool,
+    opening: u16,
 ) -> Planned
-    ensures { λ r. ⌜ r ≡ rootPlan (partsOf (now (fields .entry)) (now (numbers .entry)) (now (levels .entry)) (now (ancestors .entry))) (length (now (scratch .entry))) state ⌝ }
+    ensures { λ r. ⌜ r ≡ rootPlan (partsOf (now (fields .entry)) (now (numbers .entry)) (now (levels .entry)) (now (ancestors .entry))) (length (now (scratch .entry))) state named opening ⌝ }
 {
     let Fit::Capacity(cap) = capacity(fields, numbers, levels, ancestors) else {
         return Planned::Refuse(Refusal::Misfit);
     };
     if scratch.len() != cap {
         return Planned::Refuse(Refusal::Misfit);
+    }
+    if !is_opening(named, opening) {
+        return Planned::Refuse(Refusal::BadLabel);
     }
     if (state.count as usize) == cap {
         return Planned::Refuse(Refusal::Full);
@@ -142,5 +187,15 @@ pub fn plan_root(
     if root == NONE {
         return Planned::Refuse(Refusal::Corrupt);
     }
-    plan_above(fields, numbers, levels, ancestors, state, tree, root)
+    plan_above(
+        fields,
+        numbers,
+        levels,
+        ancestors,
+        state,
+        tree,
+        root,
+        named,
+        opening,
+    )
 }

@@ -18,15 +18,16 @@ pub record Stored : Type 0 where
 abbrev pub stored : Parts → ℕ → Stored
 stored t n = record { parts = t; given = n }
 
--- the leaf has its label; the row of the tree records it as its root; the leaf itself records none
-unfoldable pub marked : List ℕ → ℕ → ℕ → ℕ → List ℕ
-marked f leaf label tree = withField (withField (withField f leaf labelPlace label) leaf rootPlace none) tree rootPlace leaf
+-- the leaf has label 0, then the row that takes the label has it; the row of the tree records the leaf as its root; the leaf itself records none
+unfoldable pub marked : List ℕ → ℕ → ℕ → ℕ → ℕ → List ℕ
+marked f leaf labelled label tree =
+    withField (withField (withField (withField f leaf labelPlace 0) labelled labelPlace label) leaf rootPlace none) tree rootPlace leaf
 
 -- what the layer's stores left, with the marks of the leaf
 abbrev pub withMarks : List ℤ → Plan → Walked → Stored
 withMarks l g w =
     stored
-    (partsOf (marked (w .parts .fields) (g .seat .leaf .row) (g .label) (g .tree)) (w .parts .numbers) (withLevel l (g .seat .leaf .row) (g .level))
+    (partsOf (marked (w .parts .fields) (g .seat .leaf .row) (g .labelled) (g .label) (g .tree)) (w .parts .numbers) (withLevel l (g .seat .leaf .row) (g .level))
     (w .parts .ancestors))
     (w .given)
 

@@ -9,11 +9,13 @@ ghost use mathlib.Core.Path.{_≡_};
 ghost use Rattle.table.specs.Parts.{partsOf};
 ghost use Rattle.growth_store.specs.Store.{marked, stored, planStored};
 
-// The label of the leaf; the row that records the leaf as its tree's root, if any, does so; the leaf itself records none.
-fn mark(fields: &mut [u16], leaf: u16, label: u16, tree: u16)
-    ensures { λ _. ⌜ now (fields .exit) ≡ marked (now (fields .entry)) leaf label tree ⌝ }
+// The leaf has label 0, then the label goes to the row that takes it, mostly the leaf itself; the row that records the leaf as its tree's root, if any, does
+// so; the leaf itself records none.
+fn mark(fields: &mut [u16], leaf: u16, labelled: u16, label: u16, tree: u16)
+    ensures { λ _. ⌜ now (fields .exit) ≡ marked (now (fields .entry)) leaf labelled label tree ⌝ }
 {
-    put_field(fields, leaf, LABEL, label);
+    put_field(fields, leaf, LABEL, 0);
+    put_field(fields, labelled, LABEL, label);
     put_field(fields, leaf, ROOT, NONE);
     put_field(fields, tree, ROOT, leaf);
 }
@@ -32,7 +34,7 @@ pub fn store(
     let seat = g.seat;
     let leaf = seat.leaf;
     let rows = join::store::store(fields, numbers, ancestors, count, seat);
-    mark(fields, leaf.row, g.label, g.tree);
+    mark(fields, leaf.row, g.labelled, g.label, g.tree);
     put_level(levels, leaf.row, g.level);
     rows
 }

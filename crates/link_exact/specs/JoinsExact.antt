@@ -101,41 +101,44 @@ module _ {c : ℕ} {p : Parts} {n : ℕ} {target own : ℕ → ℕ} {z : ℕ} {z
   }
 
   abbrev d : ℕ → Table
-  d f = joinedTable (q .fit) site (t .level v +ℤ pos 1) f none
+  d f = joinedTable (q .fit) site (t .level v +ℤ pos 1) z f none
 
   pub step : (f : ℕ) → JoinStep (t .layer) (d f .layer) z v (h site)
-  step f = plan-step (q .fit) site (t .level v +ℤ pos 1) f none
+  step f = plan-step (q .fit) site (t .level v +ℤ pos 1) z f none
 
   planted : (f : ℕ) → Planted (t .layer) (d f .layer) z v
   planted f = step-planted (step f)
 
+  row-in : z < c
+  row-in = omega (arith, q .alone z (inl refl) .inside, q .room)
+
   pub marked : (f : ℕ) → Marked t (d f) z f (t .level v +ℤ pos 1)
   marked f = record {
     old = λ x o. record {
-      sameLabel = kept-label (q .fit) site (t .level v +ℤ pos 1) f none x (o .other);
-      sameLevel = kept-level (q .fit) site (t .level v +ℤ pos 1) f none x (o .other);
+      sameLabel = kept-label (q .fit) site (t .level v +ℤ pos 1) z f none row-in x (o .other) (o .other);
+      sameLevel = kept-level (q .fit) site (t .level v +ℤ pos 1) z f none x (o .other);
     };
-    labelIs = mark-label (q .fit) site (t .level v +ℤ pos 1) f none;
-    levelIs = mark-level (q .fit) site (t .level v +ℤ pos 1) f none;
+    labelIs = mark-label (q .fit) site (t .level v +ℤ pos 1) z f none row-in;
+    levelIs = mark-level (q .fit) site (t .level v +ℤ pos 1) z f none;
   }
 
   pub root-rest : (f : ℕ) (y : ℕ) → y < n → y ≢ z → d f .root y ≡ fieldAt (p .fields) y rootPlace
-  root-rest f y l e = plan-roots (q .fit) site (t .level v +ℤ pos 1) f none (inl refl) y (omega (arith, q .room)) e
+  root-rest f y l e = plan-roots (q .fit) site (t .level v +ℤ pos 1) z f none (inl refl) y (omega (arith, q .room)) e
       ∙ put-other (λ x. fieldAt (p .fields) x rootPlace) none z y (λ e. omega (arith, q .room, q .fit .most))
 
   pub step-unused : (f y : ℕ) → n ≤ y → y < c → Untouched t (d f) y
-  step-unused f = plan-unused (q .fit) site (t .level v +ℤ pos 1) f none (inl refl) n
+  step-unused f = plan-unused (q .fit) site (t .level v +ℤ pos 1) z f none (q .alone z (inl refl) .inside) (inl refl) n
 
   abbrev pub partsAfter : ℕ → Parts
-  partsAfter f = joinedParts (q .fit) site (t .level v +ℤ pos 1) f none
+  partsAfter f = joinedParts (q .fit) site (t .level v +ℤ pos 1) z f none
 
   pub fits-after : (f : ℕ) → Fits c (partsAfter f)
-  fits-after f = plan-fits (q .fit) site (t .level v +ℤ pos 1) f none
+  fits-after f = plan-fits (q .fit) site (t .level v +ℤ pos 1) z f none
 
   -- what it stores
   pub stores : (f : ℕ) → joinedUnder p n z v f ≡ stored (partsAfter f) (rows (d f .layer) (h site))
   unfolding joinedUnder plannedStored
-  stores f = rw (level-planned, row-planned (q .fit) site (t .level v +ℤ pos 1) f none) (plan-stored (q .fit) site (t .level v +ℤ pos 1) f none)
+  stores f = rw (level-planned, row-planned (q .fit) site (t .level v +ℤ pos 1) z f none) (plan-stored (q .fit) site (t .level v +ℤ pos 1) z f none)
 
   pub row-stores : (x door : ℕ) → joinRow p n x door z ≡ stored (partsAfter (pick (eqb z x) door (own z)))
       (rows (d (pick (eqb z x) door (own z)) .layer) (h site))

@@ -26,7 +26,7 @@ use Rattle.table.specs.StateLaws.{says-standing}
 use Rattle.table.specs.Table.{Table, tableOf}
 use Rattle.table.specs.Tree.{treeAt, rootAt}
 use Rattle.layer_laws.specs.Numbered.{in-tree, first-in}
-use Rattle.table_laws.specs.Lines.{root-in}
+use Rattle.table_laws.specs.Lines.{root-in, root-label}
 use Rattle.table_laws.specs.TreeTests.{tree-is, root-is, same-tree, tree-same}
 use Rattle.tally.specs.Layout.{tallyLength}
 use Rattle.tally.specs.Tally.{TallyOf}
@@ -125,16 +125,10 @@ module _ {c : ℕ} (p : Parts) (s : State) (fit : Fits c p) (r : Rules c (tableO
       let i = in-tree (numbered r (fit .most)) v l in
       omega (arith, sym (tree-is p (s .count) r (fit .most) i) ∙ e, first-in (numbered r (fit .most)) i, r .one .trees .count, fit .most)
 
-  -- a root has label 0
-  root-label : {x : ℕ} → x < s .count → root (tableOf p (s .count)) x ≡ x → tableOf p (s .count) .label x ≡ 0
-  root-label {x} l e =
-      let i = in-tree (numbered r (fit .most)) x l in
-      ap (tableOf p (s .count) .label) (sym e) ∙ r .one .labels .root _ (first-in (numbered r (fit .most)) i) (i .is .top)
-
-  -- so its entry may fall, and that of the door rise
+  -- a root has label 0, so its entry may fall, and that of the door rise
   movable : (w : List ℕ) {x door : ℕ} → TallyOf (tableOf p (s .count)) w → x < s .count → root (tableOf p (s .count)) x ≡ x → 1 ≤ door → door ≤ labelLimit
       → isMovable w c 0 door ≡ true
-  movable w k l e i j = tallied-movable k (r .one .trees .count) l (root-label l e) (λ z. omega arith) (omega arith) j
+  movable w k l e i j = tallied-movable k (r .one .trees .count) l (root-label r (fit .most) l e) (λ z. omega arith) (omega arith) j
 
 module _ {c : ℕ} (p : Parts) (w : List ℕ) (scratch : ℕ) (s : State) (x v door : ℕ) (fit : Fits c p) (r : Rules c (tableOf p (s .count)))
     (tally : TallyOf (tableOf p (s .count)) w) (same : scratch ≡ c) where
@@ -184,7 +178,7 @@ module _ {c : ℕ} (p : Parts) (w : List ℕ) (scratch : ℕ) (s : State) (x v d
           fits = tree-fits r fit h;
           linked = tree-linked r fit h;
           rules = link-keeps-rules r (fit .most) (tree-linked r fit h);
-          tally = moved-tallied tally (h .inUse) (root-label p s fit r (h .inUse) (h .isRoot)) (plainly .labelled) (omega arith) (plainly .labels);
+          tally = moved-tallied tally (h .inUse) (root-label r (fit .most) (h .inUse) (h .isRoot)) (plainly .labelled) (omega arith) (plainly .labels);
           plain = plainly;
           frame = tree-frame r fit h;
           pays = link-pays r (fit .most) (tree-linked r fit h);

@@ -24,7 +24,7 @@ plannedStored p n (Refuse r) = stored p 0
 unfoldable pub joinedUnder : Parts → ℕ → ℕ → ℕ → ℕ → Stored
 joinedUnder p n z v label =
     onLevel (levelFrom (levelAt (p .levels) v) (levelAt (p .levels) v +ℤ pos 1))
-    (λ level. plannedStored p n (plannedRow (p .fields) (p .numbers) (p .ancestors) n z v level label none))
+    (λ level. plannedStored p n (plannedRow (p .fields) (p .numbers) (p .ancestors) n z v level z label none))
     (stored p 0)
 
 -- the label of row z: `door`, the label that a linked root takes, where z is that root x, else its own

@@ -43,7 +43,7 @@ module _ (p : Parts) (n x door z : ℕ) {v : ℕ} {level : Level} (under : v ≡
   join-out e = rw (← under, ← told, e)
 
   pub join-at : {k : ℤ} {label : ℕ} {planned : Planned} {o : Stored} → level ≡ At k → label ≡ labelFor (p .fields) x door z
-      → planned ≡ plannedRow (p .fields) (p .numbers) (p .ancestors) n z v k label none → o ≡ plannedStored p n planned → o ≡ joinRow p n x door z
+      → planned ≡ plannedRow (p .fields) (p .numbers) (p .ancestors) n z v k z label none → o ≡ plannedStored p n planned → o ≡ joinRow p n x door z
   unfolding joinRow joinedUnder
   join-at e f g h = rw (← under, ← told, e, ← f, ← g) h
 

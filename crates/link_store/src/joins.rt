@@ -82,7 +82,7 @@ fn join_row(
     let Level::At(l) = level_under(levels, v) else {
         return 0;
     };
-    let planned = plan_row(fields, numbers, ancestors, n, z, v, l, label, NONE);
+    let planned = plan_row(fields, numbers, ancestors, n, z, v, l, z, label, NONE);
     store_planned(fields, numbers, levels, ancestors, n, planned)
 }
 

@@ -14,13 +14,18 @@ use Rattle.log.specs.Outcome.{Outcome, end, refusal, field}
 abbrev pub listed : ℕ → Bool
 listed tag = eqb tag 1 || eqb tag 2 || eqb tag 3 || eqb tag 4 || eqb tag 9
 
--- the lengths that a listed tag allows: none for a root, any for filler, else two numbers
+-- the lengths that a listed tag allows: an opening or nothing for a root (02: "The log's top field then has length 2; length 0 still
+-- serves for the first image of a tree, and for older logs"), any for filler, else two numbers
 abbrev pub fits : ℕ → ℕ → Bool
-fits tag n = pick (eqb tag 2) (eqb n 0) (pick (eqb tag 9) true (eqb n 4))
+fits tag n = pick (eqb tag 2) (eqb n 0 || eqb n 2) (pick (eqb tag 9) true (eqb n 4))
 
--- what a body tells: nothing for a root and filler, else two numbers
+-- what a root tells: whether it names an opening, 1 or 0, and the opening, 0 where it names none
+abbrev pub rootValues : List ℕ → List ℕ
+rootValues body = pick (eqb (length body) 0) (0 ∷ 0 ∷ []) (1 ∷ numberAt body 0 ∷ [])
+
+-- what a body tells: nothing for filler, else two numbers
 abbrev pub values : ℕ → List ℕ → List ℕ
-values tag body = pick (eqb tag 2 || eqb tag 9) [] (numberAt body 0 ∷ numberAt body 2 ∷ [])
+values tag body = pick (eqb tag 2) (rootValues body) (pick (eqb tag 9) [] (numberAt body 0 ∷ numberAt body 2 ∷ []))
 
 -- a whole field, of this tag and body, with the next field at `next`: refusals 6, 7 and 9 in this order, or its values
 unfoldable pub wholeField : ℕ → List ℕ → ℕ → Outcome

@@ -1,11 +1,17 @@
 -- The numbers and values of an outcome tell its case: a promise on `outcomeOf` says which case is answered, and with what.
 use mathlib.Core.Path.{_≡_, refl, sym, ap, _∙_}
+use mathlib.Core.Bool.{Bool, true, false}
 use lib.ListN.{getD}
 use lib.Dec.{eqb}
-use Rattle.laws.specs.Test.{pick}
+use Rattle.laws.specs.Test.{pick, bit}
 use Rattle.log.specs.declared.Field.{Field}
 use Rattle.log.specs.declared.Field.the-variants.{End, BadTag, BadLength, Truncated, DirtyFiller, Leaf, Root, Question, Alike, Filler}
 use Rattle.log.specs.Outcome.{Outcome, end, refusal, field, outcomeOf}
+
+-- a root's first value tells whether it names an opening
+pub named-told : (named : Bool) → eqb (bit named) 1 ≡ named
+named-told true = refl
+named-told false = refl
 
 -- the case that an outcome stands for
 caseOf : Outcome → Field
@@ -13,7 +19,7 @@ caseOf end = End
 caseOf (refusal n next) = pick (eqb n 6) (BadTag next) (pick (eqb n 7) (BadLength next) (pick (eqb n 8) (Truncated next) (DirtyFiller next)))
 caseOf (field tag v next) =
     pick (eqb tag 1) (Leaf (getD v 0 0) (getD v 1 0) next)
-    (pick (eqb tag 2) (Root next)
+    (pick (eqb tag 2) (Root (eqb (getD v 0 0) 1) (getD v 1 0) next)
     (pick (eqb tag 3) (Question (getD v 0 0) (getD v 1 0) next)
     (pick (eqb tag 4) (Alike (getD v 0 0) (getD v 1 0) next)
     (Filler next))))
@@ -26,7 +32,7 @@ case-outcome (BadLength next) = refl
 case-outcome (Truncated next) = refl
 case-outcome (DirtyFiller next) = refl
 case-outcome (Leaf parent label next) = refl
-case-outcome (Root next) = refl
+case-outcome (Root named opening next) = rw (named-told named)
 case-outcome (Question x y next) = refl
 case-outcome (Alike x y next) = refl
 case-outcome (Filler next) = refl

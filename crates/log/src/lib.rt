@@ -22,7 +22,12 @@ pub enum Field {
         label: u16,
         next: usize,
     },
-    Root(usize),
+    // Whether it names an opening, and the opening, 0 where it names none.
+    Root {
+        named: bool,
+        opening: u16,
+        next: usize,
+    },
     Question {
         x: u16,
         y: u16,
@@ -47,6 +52,27 @@ const ALIKE: u8 = 4;
 
 const FILLER: u8 = 9;
 
+// A root: no body names no opening, and a body of one number is the opening that it names.
+fn root_field(body: &[u8], next: usize) -> Field
+    ensures { λ r. ⌜ outcomeOf r ≡ wholeField 2 (now (body .entry)) next ⌝ }
+{
+    if body.len() == 0 {
+        return Field::Root {
+            named: false,
+            opening: 0,
+            next,
+        };
+    }
+    if body.len() != 2 {
+        return Field::BadLength(next);
+    }
+    Field::Root {
+        named: true,
+        opening: number_at(body, 0),
+        next,
+    }
+}
+
 // What a whole field is, by its tag and body; `next` is the place past it.
 fn whole_field(tag: u8, body: &[u8], next: usize) -> Field
     ensures { λ r. ⌜ outcomeOf r ≡ wholeField tag (now (body .entry)) next ⌝ }
@@ -62,12 +88,7 @@ fn whole_field(tag: u8, body: &[u8], next: usize) -> Field
                 next,
             }
         }
-        ROOT => {
-            if body.len() != 0 {
-                return Field::BadLength(next);
-            }
-            Field::Root(next)
-        }
+        ROOT => root_field(body, next),
         QUESTION => {
             if body.len() != 4 {
                 return Field::BadLength(next);

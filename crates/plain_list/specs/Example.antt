@@ -1,6 +1,7 @@
--- Runs of the plain list and of the stored list beside it, computed: the log of 01, "Program and figures to check", one that meets every refusal and reply of 01, and one of several
--- trees that meets those of 02, "Coupled rooms".
+-- Runs of the plain list and of the stored list beside it, computed: the log of 01, "Program and figures to check", one that meets every refusal and reply of 01, one of several
+-- trees that meets those of 02, "Coupled rooms", and one of openings.
 use mathlib.Core.Path.{_≡_, refl}
+use mathlib.Core.Bool.{true, false}
 use mathlib.Core.List.{List, [], _∷_}
 use Prim.Native.Nat.{ℕ, _+_}
 use Rattle.laws.specs.Tabulate.{tabulate}
@@ -18,7 +19,7 @@ answer a b c d e l = answered (record { nca = a; toX = b; toY = c; distanceX = d
 
 -- the log's seven fields
 abbrev log : List PlainCall
-log = root 128 ∷ leaf 0 7 128 ∷ leaf 1 9 128 ∷ question 1 2 ∷ leaf 5 7 128 ∷ root 128 ∷ question 2 3 ∷ []
+log = root false 0 128 ∷ leaf 0 7 128 ∷ leaf 1 9 128 ∷ question 1 2 ∷ leaf 5 7 128 ∷ root false 0 128 ∷ question 2 3 ∷ []
 
 -- the seven lines' numbers and answers; at the end node 3 is the root, over 0 over 1 over 2
 log-run : plainRun 128 emptyList log ≡ record {
@@ -42,9 +43,9 @@ log-below = refl
 -- at capacity 5: two leaves with equal labels under the root, one below each, and the refusals in their order
 abbrev full : List PlainCall
 full =
-    inspection 5 ∷ question 0 0 ∷ leaf 0 7 5 ∷ root 4 ∷ root 5 ∷ leaf 1 0 4 ∷ leaf 1 0 5 ∷ leaf 0 0 5 ∷ leaf 0 10000 5 ∷ leaf 0 7 5 ∷ leaf 0 7 5 ∷
-    leaf 1 9999 5 ∷ leaf 2 8 5 ∷ leaf 4 1 5 ∷ leaf 5 0 5 ∷ leaf 4 0 5 ∷ root 5 ∷ root 6 ∷ question 3 4 ∷ question 3 3 ∷ question 1 3 ∷ question 5 0 ∷
-    alike 1 2 ∷ alike 3 4 ∷ alike 0 1 ∷ alike 0 0 ∷ alike 0 5 ∷ inspection 6 ∷ inspection 5 ∷ []
+    inspection 5 ∷ question 0 0 ∷ leaf 0 7 5 ∷ root false 0 4 ∷ root false 0 5 ∷ leaf 1 0 4 ∷ leaf 1 0 5 ∷ leaf 0 0 5 ∷ leaf 0 10000 5 ∷ leaf 0 7 5 ∷
+    leaf 0 7 5 ∷ leaf 1 9999 5 ∷ leaf 2 8 5 ∷ leaf 4 1 5 ∷ leaf 5 0 5 ∷ leaf 4 0 5 ∷ root false 0 5 ∷ root false 0 6 ∷ question 3 4 ∷ question 3 3 ∷
+    question 1 3 ∷ question 5 0 ∷ alike 1 2 ∷ alike 3 4 ∷ alike 0 1 ∷ alike 0 0 ∷ alike 0 5 ∷ inspection 6 ∷ inspection 5 ∷ []
 
 full-run : plainRun 5 emptyList full .replies ≡
     passes ∷ refusal 1 ∷ refusal 1 ∷ refusal 3 ∷ node 0 ∷ refusal 3 ∷ refusal 1 ∷ refusal 5 ∷ refusal 5 ∷ node 1 ∷ node 2 ∷
@@ -56,10 +57,10 @@ full-run = refl
 -- at capacity 6: node 1 under root 0, node 3 under 2 under the new root 4; 4 is linked under 1, then 0 under the first node 5
 abbrev coupled : List PlainCall
 coupled =
-    rootOver 0 6 ∷ first 6 ∷ leaf 0 7 6 ∷ first 6 ∷ leaf 2 8 6 ∷ first 5 ∷ question 0 2 ∷ question 6 2 ∷ alike 1 3 ∷ rootOver 1 6 ∷ rootOver 2 5 ∷
-    rootOver 2 6 ∷ link 2 1 9 6 ∷ link 1 0 9 6 ∷ link 4 4 9 6 ∷ link 4 3 9 6 ∷ link 2 1 0 6 ∷ link 4 6 0 6 ∷ link 6 1 0 6 ∷ link 4 1 9 5 ∷ question 3 1 ∷
-    link 4 1 9 6 ∷ question 3 1 ∷ alike 4 1 ∷ rootOver 4 6 ∷ first 6 ∷ first 6 ∷ rootOver 0 6 ∷ rootOver 1 6 ∷ alike 3 5 ∷ link 0 5 3 6 ∷ question 3 5 ∷
-    alike 5 5 ∷ []
+    rootOver 0 false 0 6 ∷ first 6 ∷ leaf 0 7 6 ∷ first 6 ∷ leaf 2 8 6 ∷ first 5 ∷ question 0 2 ∷ question 6 2 ∷ alike 1 3 ∷ rootOver 1 false 0 6 ∷
+    rootOver 2 false 0 5 ∷ rootOver 2 false 0 6 ∷ link 2 1 9 6 ∷ link 1 0 9 6 ∷ link 4 4 9 6 ∷ link 4 3 9 6 ∷ link 2 1 0 6 ∷ link 4 6 0 6 ∷ link 6 1 0 6 ∷
+    link 4 1 9 5 ∷ question 3 1 ∷ link 4 1 9 6 ∷ question 3 1 ∷ alike 4 1 ∷ rootOver 4 false 0 6 ∷ first 6 ∷ first 6 ∷ rootOver 0 false 0 6 ∷
+    rootOver 1 false 0 6 ∷ alike 3 5 ∷ link 0 5 3 6 ∷ question 3 5 ∷ alike 5 5 ∷ []
 
 -- the linked trees count three and five nodes
 coupled-run : plainRun 6 emptyList coupled ≡ record {
@@ -78,6 +79,24 @@ coupled-run = refl
 coupled-stored : storedRun 6 emptyList [] coupled ≡ 5 ∷ 0 ∷ 4 ∷ 2 ∷ 1 ∷ none ∷ []
 unfolding storedRun plainOutcome naiveAnswer naiveSame naiveRoot treeCount withNode withLink tabulate
 coupled-stored = refl
+
+-- at capacity 5: the first node's opening is unused; new root 1 names none, 2 names 12, so that node 1 is alike with 3, a leaf of label 12, and 4 names 9,999;
+-- refusal 5 comes after 3 and 1, before 10 and 2
+abbrev opened : List PlainCall
+opened =
+    root true 0 5 ∷ root true 10000 5 ∷ root true 0 4 ∷ root true 7 5 ∷ root false 70000 5 ∷ root true 12 5 ∷ leaf 2 12 5 ∷ alike 1 3 ∷ alike 0 3 ∷
+    rootOver 4 true 0 5 ∷ rootOver 0 true 0 5 ∷ rootOver 0 true 9 5 ∷ rootOver 0 false 0 5 ∷ rootOver 2 true 9999 5 ∷ root true 0 5 ∷ root true 7 5 ∷
+    rootOver 4 true 0 5 ∷ rootOver 4 true 7 5 ∷ []
+
+opened-run : plainRun 5 emptyList opened ≡ record {
+  replies =
+      refusal 5 ∷ refusal 5 ∷ refusal 3 ∷ node 0 ∷ node 1 ∷ node 2 ∷ node 3 ∷ same 1 ∷ same 0 ∷
+      refusal 1 ∷ refusal 5 ∷ refusal 10 ∷ refusal 10 ∷ node 4 ∷ refusal 5 ∷ refusal 2 ∷ refusal 5 ∷ refusal 2 ∷ [];
+  last = record { parents = 1 ∷ 2 ∷ 4 ∷ 2 ∷ none ∷ []; labels = 0 ∷ 12 ∷ 9999 ∷ 12 ∷ 0 ∷ [] };
+  joinings = 5;
+}
+unfolding plainRun plainOutcome naiveSame naiveRoot withNode
+opened-run = refl
 
 -- at capacity 4: labels 0 and 5 are carried by two nodes each; then a link takes one from 0 and gives it to 9, so that 5 is the commonest, which neither
 -- of the two entries that change can tell

@@ -21,8 +21,8 @@ pub data Unlinked : List PlainReply → Type 0 where
 abbrev pub isLink : PlainCall → Bool
 isLink (first s) = false
 isLink (leaf v l s) = false
-isLink (root s) = false
-isLink (rootOver x s) = false
+isLink (root named opening s) = false
+isLink (rootOver x named opening s) = false
 isLink (link x v door s) = true
 isLink (question x y) = false
 isLink (alike x y) = false
@@ -55,8 +55,8 @@ module _ (capacity : ℕ) where
   step-count p (nothing d) e = omega arith
   step-count p (adds-first d) e = omega (arith, node-count p none 0)
   step-count p (adds-leaf {v = v} {l} h i j d) e = omega (arith, node-count p v l)
-  step-count p (adds-root z d) e = omega (arith, root-count p (rootIn p 0))
-  step-count p (adds-over {r = r} h i d) e = omega (arith, root-count p r)
+  step-count p (adds-root {named = named} {opening} z d) e = omega (arith, root-count p (rootIn p 0) named opening)
+  step-count p (adds-over {r = r} {named} {opening} h i d) e = omega (arith, root-count p r named opening)
   step-count p (joins h i j k r d) e = absurd (e refl)
 
   run-count : (p : PlainList) (qs : List PlainCall) → Unlinked (plainRun capacity p qs .replies)

@@ -1,7 +1,9 @@
 -- The plain list (01, "Demand 3 and the plain list"; 02, "Coupled rooms"): each node's parent and label. A tree's root is its node without a parent.
+use mathlib.Core.Bool.{Bool}
 use mathlib.Core.List.{List, [], _∷_, _++_}
 use Prim.Native.Nat.{ℕ}
 use lib.ListN.{length, getD, set}
+use Rattle.laws.specs.Test.{pick}
 use Rattle.tree_laws.specs.Ancestor.{none}
 
 -- node x has the parent and the label that stand at x; none is the parent of a root
@@ -37,13 +39,14 @@ withFirst p = withNode p none 0
 abbrev pub withLeaf : PlainList → ℕ → ℕ → PlainList
 withLeaf p parent label = withNode p parent label
 
--- node x under node v
-abbrev pub under : PlainList → ℕ → ℕ → PlainList
-under p x v = record { parents = set (p .parents) x v; labels = p .labels }
+-- node x under node v, x with the label of the opening where one is named
+abbrev pub under : PlainList → ℕ → ℕ → Bool → ℕ → PlainList
+under p x v named opening = record { parents = set (p .parents) x v; labels = pick named (set (p .labels) x opening) (p .labels) }
 
--- a new root (the paper's "top") over the root r, which comes under it: its label is 0
-abbrev pub withRoot : PlainList → ℕ → PlainList
-withRoot p r = withNode (under p r (countOf p)) none 0
+-- a new root (the paper's "top") over the root r, which comes under it (02: "A top shall name the opening, which becomes the old source's panel; the new source
+-- has 0"); where none is named, r keeps its label
+abbrev pub withRoot : PlainList → ℕ → Bool → ℕ → PlainList
+withRoot p r named opening = withNode (under p r (countOf p) named opening) none 0
 
 -- the tree of root x under node v, x with the label of the door (the paper's word for what a linked tree is seen through)
 unfoldable pub withLink : PlainList → ℕ → ℕ → ℕ → PlainList

@@ -1,11 +1,16 @@
 -- What a new node, a new root and a link do to count, parents and labels.
 use mathlib.Core.Path.{_≡_, refl, ap, sym, _∙_}
+use mathlib.Core.Bool.{Bool, true, false, _&&_}
 use mathlib.Core.List.{List, [], _∷_, _++_}
 use mathlib.Core.Logic.{_≢_}
 use Prim.Native.Nat.{ℕ, suc, _<_}
+use native.Mathlib.Decide.{ℕ-discrete}
 use native.Mathlib.Omega.{arith}
+use lib.Dec.{eqb}
 use lib.ListN.{length, length-append, length-set, List·getD-append}
 use lib.Seq.{getD-at, getD-set-same, getD-set-other}
+use borrow.Author.Tests.{eq-eqb, ne-eqb}
+use Rattle.laws.specs.Test.{pick}
 use Rattle.tree_laws.specs.Ancestor.{none}
 use Rattle.plain_list.specs.PlainList.{PlainList, countOf, parentOf, labelOf, withNode, under, withRoot, withLink}
 
@@ -39,35 +44,56 @@ module _ (p : PlainList) (v l : ℕ) where
   unfolding withNode
   node-label-new e = getD-at (p .labels) l [] 0 (countOf p) e
 
-module _ (p : PlainList) (r : ℕ) where
+-- A node under another, through an opening or through none
+
+under-labels : (p : PlainList) (x v : ℕ) (named : Bool) (opening : ℕ) → length (under p x v named opening .labels) ≡ length (p .labels)
+under-labels p x v true opening = length-set (p .labels) x _
+under-labels p x v false opening = refl
+
+under-label : (p : PlainList) (x v : ℕ) (named : Bool) (opening : ℕ) → length (p .labels) ≡ countOf p → (w : ℕ) → w < countOf p
+    → labelOf (under p x v named opening) w ≡ pick (named && eqb w x) opening (labelOf p w)
+under-label p x v true opening e w i = elim (ℕ-discrete w x) [
+  | yes z ↦ rw (z, eq-eqb x x refl) (getD-set-same (p .labels) x opening 0 (omega arith))
+  | no d ↦ rw (ne-eqb w x d) (getD-set-other (p .labels) x w opening 0 d)
+]
+under-label p x v false opening e w i = refl
+
+module _ (p : PlainList) (r : ℕ) (named : Bool) (opening : ℕ) where
   -- A new root over r
 
-  under-count : countOf (under p r (countOf p)) ≡ countOf p
-  under-count = length-set (p .parents) r (countOf p)
+  -- the old nodes
+  abbrev turned : PlainList
+  turned = under p r (countOf p) named opening
 
-  pub root-count : countOf (withRoot p r) ≡ suc (countOf p)
-  root-count = node-count (under p r (countOf p)) none 0 ∙ ap suc under-count
+  turned-count : countOf turned ≡ countOf p
+  turned-count = length-set (p .parents) r (countOf p)
 
-  pub root-labels : length (withRoot p r .labels) ≡ suc (length (p .labels))
-  root-labels = node-labels (under p r (countOf p)) none 0
+  pub root-count : countOf (withRoot p r named opening) ≡ suc (countOf p)
+  root-count = node-count turned none _ ∙ ap suc turned-count
 
-  pub root-parent-new : parentOf (withRoot p r) (countOf p) ≡ none
-  root-parent-new = ap (parentOf (withRoot p r)) (sym under-count) ∙ node-parent-new (under p r (countOf p)) none 0
+  pub root-labels : length (withRoot p r named opening .labels) ≡ suc (length (p .labels))
+  root-labels = node-labels turned none _ ∙ ap suc (under-labels p r (countOf p) named opening)
+
+  pub root-parent-new : parentOf (withRoot p r named opening) (countOf p) ≡ none
+  root-parent-new = ap (parentOf (withRoot p r named opening)) (sym turned-count) ∙ node-parent-new turned none _
 
   -- the new root is the parent of the old one
-  pub root-parent-old : r < countOf p → parentOf (withRoot p r) r ≡ countOf p
-  root-parent-old i =
-      node-parent-old (under p r (countOf p)) none 0 r (rw under-count i) ∙ getD-set-same (p .parents) r (countOf p) none i
+  pub root-parent-old : r < countOf p → parentOf (withRoot p r named opening) r ≡ countOf p
+  root-parent-old i = node-parent-old turned none _ r (rw turned-count i) ∙ getD-set-same (p .parents) r (countOf p) none i
 
-  pub root-parent-other : (x : ℕ) → x < countOf p → x ≢ r → parentOf (withRoot p r) x ≡ parentOf p x
-  root-parent-other x i d =
-      node-parent-old (under p r (countOf p)) none 0 x (rw under-count i) ∙ getD-set-other (p .parents) r x (countOf p) none d
+  pub root-parent-other : (x : ℕ) → x < countOf p → x ≢ r → parentOf (withRoot p r named opening) x ≡ parentOf p x
+  root-parent-other x i d = node-parent-old turned none _ x (rw turned-count i) ∙ getD-set-other (p .parents) r x (countOf p) none d
 
-  pub root-label-old : length (p .labels) ≡ countOf p → (x : ℕ) → x < countOf p → labelOf (withRoot p r) x ≡ labelOf p x
-  root-label-old e x i = node-label-old (under p r (countOf p)) none 0 (e ∙ sym under-count) x (rw under-count i)
+  module _ (e : length (p .labels) ≡ countOf p) where
+    turned-labels : length (turned .labels) ≡ countOf turned
+    turned-labels = under-labels p r (countOf p) named opening ∙ e ∙ sym turned-count
 
-  pub root-label-new : length (p .labels) ≡ countOf p → labelOf (withRoot p r) (countOf p) ≡ 0
-  root-label-new e = ap (labelOf (withRoot p r)) (sym under-count) ∙ node-label-new (under p r (countOf p)) none 0 (e ∙ sym under-count)
+    -- the old root takes the label of the opening, where one is named
+    pub root-label-old : (x : ℕ) → x < countOf p → labelOf (withRoot p r named opening) x ≡ pick (named && eqb x r) opening (labelOf p x)
+    root-label-old x i = node-label-old turned none _ turned-labels x (rw turned-count i) ∙ under-label p r (countOf p) named opening e x i
+
+    pub root-label-new : labelOf (withRoot p r named opening) (countOf p) ≡ 0
+    root-label-new = ap (labelOf (withRoot p r named opening)) (sym turned-count) ∙ node-label-new turned none _ turned-labels
 
 module _ (p : PlainList) (x v door : ℕ) where
   -- A link

@@ -10,12 +10,13 @@ use Rattle.tree_laws.specs.Answer.{Answer}
 use Rattle.plain_list.specs.PlainList.{PlainList, countOf, parentOf, labelOf, withFirst, withLeaf, withRoot, withLink}
 use Rattle.plain_list.specs.Naive.{naiveAnswer, naiveSame, naiveRoot}
 
--- a call by its arguments, without the lent tables and the count; of the scratch only its length. `root` is 01's new root, which names no node
+-- a call by its arguments, without the lent tables and the count; of the scratch only its length. `root` is 01's new root, which names no node;
+-- `named` says whether a new root names an opening
 pub data PlainCall : Type 0 where
   first : (scratch : ℕ) → PlainCall
   leaf : (parent label scratch : ℕ) → PlainCall
-  root : (scratch : ℕ) → PlainCall
-  rootOver : (x scratch : ℕ) → PlainCall
+  root : (named : Bool) (opening scratch : ℕ) → PlainCall
+  rootOver : (x : ℕ) (named : Bool) (opening scratch : ℕ) → PlainCall
   link : (x v door scratch : ℕ) → PlainCall
   question : (x y : ℕ) → PlainCall
   alike : (x y : ℕ) → PlainCall
@@ -63,6 +64,11 @@ largestLabel = 9999
 abbrev pub isLabel : ℕ → Bool
 isLabel l = leb 1 l && leb l largestLabel
 
+-- an opening that is named has a label; where none is, the number is not looked at (02: "no being a length-0 top; refusal 5 applies where it does")
+abbrev pub isOpening : Bool → ℕ → Bool
+isOpening true o = isLabel o
+isOpening false o = true
+
 -- there is room for one node more
 abbrev pub hasRoom : ℕ → PlainList → Bool
 hasRoom capacity p = not (eqb (countOf p) capacity)
@@ -104,17 +110,19 @@ plainOutcome capacity p (leaf parent label scratch) =
     (unless (isLabel label) 5 p
     (unless (hasRoom capacity p) 2 p
     (grows p (withLeaf p parent label)))))
--- a first node where there is none, else a new root over that of the tree of node 0
-plainOutcome capacity p (root scratch) =
+-- a first node where there is none (02: "On an empty tree a named opening is checked and otherwise unused"), else a new root over that of the tree of node 0
+plainOutcome capacity p (root named opening scratch) =
     unless (eqb scratch capacity) 3 p
+    (unless (isOpening named opening) 5 p
     (unless (hasRoom capacity p) 2 p
-    (pick (eqb (countOf p) 0) (grows p (withFirst p)) (grows p (withRoot p (rootIn p 0)))))
-plainOutcome capacity p (rootOver x scratch) =
+    (pick (eqb (countOf p) 0) (grows p (withFirst p)) (grows p (withRoot p (rootIn p 0) named opening)))))
+plainOutcome capacity p (rootOver x named opening scratch) =
     unless (eqb scratch capacity) 3 p
     (unless (ltb x (countOf p)) 1 p
+    (unless (isOpening named opening) 5 p
     (unless (isRoot p x) 10 p
     (unless (hasRoom capacity p) 2 p
-    (grows p (withRoot p x)))))
+    (grows p (withRoot p x named opening))))))
 plainOutcome capacity p (link x v door scratch) =
     unless (eqb scratch capacity) 3 p
     (unless (bothKnown p x v) 1 p

@@ -1,6 +1,6 @@
 -- What a call does to the plain list: it changes nothing, adds a node where there is room, or links a tree.
 use mathlib.Core.Path.{_≡_, refl, sym}
-use mathlib.Core.Bool.{Bool}
+use mathlib.Core.Bool.{Bool, true, false}
 use mathlib.Core.Logic.{_≢_}
 use Prim.Native.Nat.{ℕ, _≤_, _<_}
 use native.Mathlib.Omega.{arith}
@@ -12,13 +12,17 @@ use Rattle.plain_list.specs.PlainList.{PlainList, countOf, parentOf, lab
 use Rattle.plain_list.specs.Naive.{naiveAnswer, naiveSame}
 use Rattle.plain_list.specs.PlainStep.{PlainCall, first, leaf, root, rootOver, link, question, alike, inspection}
 use Rattle.plain_list.specs.PlainStep.{PlainReply, refusal, node, linked, answered, same, passes, PlainOutcome, replies, refusalOf, unless, grows}
-use Rattle.plain_list.specs.PlainStep.{bothKnown, largestLabel, isLabel, hasRoom, rootIn, treeCount, asked, plainOutcome, plainStep, plainAfter}
+use Rattle.plain_list.specs.PlainStep.{bothKnown, largestLabel, isLabel, isOpening, hasRoom, rootIn, treeCount, asked, plainOutcome, plainStep, plainAfter}
 
 pub says-bothKnown : (p : PlainList) (x y : ℕ) → Says ((x < countOf p) × (y < countOf p)) (bothKnown p x y)
 says-bothKnown p x y = says-and (says-ltb x (countOf p)) (λ _. says-ltb y (countOf p))
 
 says-label : (l : ℕ) → Says ((1 ≤ l) × (l ≤ largestLabel)) (isLabel l)
 says-label l = says-and (says-leb 1 l) (λ _. says-leb l largestLabel)
+
+says-itself : (b : Bool) → Says (b ≡ true) b
+says-itself true = holds refl
+says-itself false = fails (λ e. let z : _≡_ {A = ℕ} 0 1 = cc in omega arith)
 
 -- The services
 
@@ -34,18 +38,21 @@ module _ (capacity : ℕ) (p : PlainList) where
       rw (eq-eqb s capacity e, lt-ltb v (countOf p) h, le-leb 1 l i, le-leb l largestLabel j, ne-eqb (countOf p) capacity d)
 
   -- 01's new root, where there is no node and where there is one
-  pub root-served-first : (s : ℕ) → s ≡ capacity → countOf p ≢ capacity → countOf p ≡ 0 → plainOutcome capacity p (root s) ≡ grows p (withFirst p)
+  pub root-served-first : (named : Bool) (opening s : ℕ) → s ≡ capacity → isOpening named opening ≡ true → countOf p ≢ capacity → countOf p ≡ 0
+      → plainOutcome capacity p (root named opening s) ≡ grows p (withFirst p)
   unfolding plainOutcome
-  root-served-first s e d z = rw (eq-eqb s capacity e, ne-eqb (countOf p) capacity d, eq-eqb (countOf p) 0 z)
+  root-served-first named opening s e o d z = rw (eq-eqb s capacity e, o, ne-eqb (countOf p) capacity d, eq-eqb (countOf p) 0 z)
 
-  pub root-served : (s : ℕ) → s ≡ capacity → countOf p ≢ capacity → countOf p ≢ 0 → plainOutcome capacity p (root s) ≡ grows p (withRoot p (rootIn p 0))
+  pub root-served : (named : Bool) (opening s : ℕ) → s ≡ capacity → isOpening named opening ≡ true → countOf p ≢ capacity → countOf p ≢ 0
+      → plainOutcome capacity p (root named opening s) ≡ grows p (withRoot p (rootIn p 0) named opening)
   unfolding plainOutcome
-  root-served s e d z = rw (eq-eqb s capacity e, ne-eqb (countOf p) capacity d, ne-eqb (countOf p) 0 z)
+  root-served named opening s e o d z = rw (eq-eqb s capacity e, o, ne-eqb (countOf p) capacity d, ne-eqb (countOf p) 0 z)
 
-  pub over-served : (x s : ℕ) → s ≡ capacity → x < countOf p → parentOf p x ≡ none → countOf p ≢ capacity
-      → plainOutcome capacity p (rootOver x s) ≡ grows p (withRoot p x)
+  pub over-served : (x : ℕ) (named : Bool) (opening s : ℕ) → s ≡ capacity → x < countOf p → isOpening named opening ≡ true → parentOf p x ≡ none
+      → countOf p ≢ capacity → plainOutcome capacity p (rootOver x named opening s) ≡ grows p (withRoot p x named opening)
   unfolding plainOutcome
-  over-served x s e h r d = rw (eq-eqb s capacity e, lt-ltb x (countOf p) h, eq-eqb (parentOf p x) none r, ne-eqb (countOf p) capacity d)
+  over-served x named opening s e h o r d =
+      rw (eq-eqb s capacity e, lt-ltb x (countOf p) h, o, eq-eqb (parentOf p x) none r, ne-eqb (countOf p) capacity d)
 
   pub link-served : (x v door s : ℕ) → s ≡ capacity → x < countOf p → v < countOf p → 1 ≤ door → door ≤ largestLabel → parentOf p x ≡ none → rootIn p v ≢ x
       → plainOutcome capacity p (link x v door s) ≡ record { reply = linked; after = withLink p x v door; joined = treeCount p x }
@@ -102,30 +109,44 @@ module _ (capacity : ℕ) (p : PlainList) where
   unfolding plainOutcome
   leaf-full v l s e h i j f = rw (eq-eqb s capacity e, lt-ltb v (countOf p) h, le-leb 1 l i, le-leb l largestLabel j, eq-eqb (countOf p) capacity f)
 
-  pub root-misfit : (s : ℕ) → s ≢ capacity → plainOutcome capacity p (root s) ≡ refusalOf 3 p
+  pub root-misfit : (named : Bool) (opening s : ℕ) → s ≢ capacity → plainOutcome capacity p (root named opening s) ≡ refusalOf 3 p
   unfolding plainOutcome
-  root-misfit s d = rw (ne-eqb s capacity d)
+  root-misfit named opening s d = rw (ne-eqb s capacity d)
 
-  pub root-full : (s : ℕ) → s ≡ capacity → countOf p ≡ capacity → plainOutcome capacity p (root s) ≡ refusalOf 2 p
+  pub root-no-label : (named : Bool) (opening s : ℕ) → s ≡ capacity → isOpening named opening ≡ false
+      → plainOutcome capacity p (root named opening s) ≡ refusalOf 5 p
   unfolding plainOutcome
-  root-full s e f = rw (eq-eqb s capacity e, eq-eqb (countOf p) capacity f)
+  root-no-label named opening s e o = rw (eq-eqb s capacity e, o)
 
-  pub over-misfit : (x s : ℕ) → s ≢ capacity → plainOutcome capacity p (rootOver x s) ≡ refusalOf 3 p
+  pub root-full : (named : Bool) (opening s : ℕ) → s ≡ capacity → isOpening named opening ≡ true → countOf p ≡ capacity
+      → plainOutcome capacity p (root named opening s) ≡ refusalOf 2 p
   unfolding plainOutcome
-  over-misfit x s d = rw (ne-eqb s capacity d)
+  root-full named opening s e o f = rw (eq-eqb s capacity e, o, eq-eqb (countOf p) capacity f)
 
-  pub over-unknown : (x s : ℕ) → s ≡ capacity → countOf p ≤ x → plainOutcome capacity p (rootOver x s) ≡ refusalOf 1 p
+  pub over-misfit : (x : ℕ) (named : Bool) (opening s : ℕ) → s ≢ capacity → plainOutcome capacity p (rootOver x named opening s) ≡ refusalOf 3 p
   unfolding plainOutcome
-  over-unknown x s e h = rw (eq-eqb s capacity e, le-ltb x (countOf p) h)
+  over-misfit x named opening s d = rw (ne-eqb s capacity d)
 
-  pub over-no-root : (x s : ℕ) → s ≡ capacity → x < countOf p → parentOf p x ≢ none → plainOutcome capacity p (rootOver x s) ≡ refusalOf 10 p
+  pub over-unknown : (x : ℕ) (named : Bool) (opening s : ℕ) → s ≡ capacity → countOf p ≤ x
+      → plainOutcome capacity p (rootOver x named opening s) ≡ refusalOf 1 p
   unfolding plainOutcome
-  over-no-root x s e h d = rw (eq-eqb s capacity e, lt-ltb x (countOf p) h, ne-eqb (parentOf p x) none d)
+  over-unknown x named opening s e h = rw (eq-eqb s capacity e, le-ltb x (countOf p) h)
 
-  pub over-full : (x s : ℕ) → s ≡ capacity → x < countOf p → parentOf p x ≡ none → countOf p ≡ capacity
-      → plainOutcome capacity p (rootOver x s) ≡ refusalOf 2 p
+  pub over-no-label : (x : ℕ) (named : Bool) (opening s : ℕ) → s ≡ capacity → x < countOf p → isOpening named opening ≡ false
+      → plainOutcome capacity p (rootOver x named opening s) ≡ refusalOf 5 p
   unfolding plainOutcome
-  over-full x s e h r f = rw (eq-eqb s capacity e, lt-ltb x (countOf p) h, eq-eqb (parentOf p x) none r, eq-eqb (countOf p) capacity f)
+  over-no-label x named opening s e h o = rw (eq-eqb s capacity e, lt-ltb x (countOf p) h, o)
+
+  pub over-no-root : (x : ℕ) (named : Bool) (opening s : ℕ) → s ≡ capacity → x < countOf p → isOpening named opening ≡ true → parentOf p x ≢ none
+      → plainOutcome capacity p (rootOver x named opening s) ≡ refusalOf 10 p
+  unfolding plainOutcome
+  over-no-root x named opening s e h o d = rw (eq-eqb s capacity e, lt-ltb x (countOf p) h, o, ne-eqb (parentOf p x) none d)
+
+  pub over-full : (x : ℕ) (named : Bool) (opening s : ℕ) → s ≡ capacity → x < countOf p → isOpening named opening ≡ true → parentOf p x ≡ none
+      → countOf p ≡ capacity → plainOutcome capacity p (rootOver x named opening s) ≡ refusalOf 2 p
+  unfolding plainOutcome
+  over-full x named opening s e h o r f =
+      rw (eq-eqb s capacity e, lt-ltb x (countOf p) h, o, eq-eqb (parentOf p x) none r, eq-eqb (countOf p) capacity f)
 
   pub question-unknown : (x y : ℕ) → ¬ ((x < countOf p) × (y < countOf p)) → plainOutcome capacity p (question x y) ≡ refusalOf 1 p
   unfolding plainOutcome
@@ -188,8 +209,10 @@ pub data Does (capacity : ℕ) (p : PlainList) : PlainCall → PlainOutcome → 
   nothing : {q : PlainCall} {r : PlainReply} → r ≢ linked → Does capacity p q (replies r p)
   adds-first : {q : PlainCall} → countOf p ≢ capacity → Does capacity p q (grows p (withFirst p))
   adds-leaf : {q : PlainCall} {v l : ℕ} → v < countOf p → 1 ≤ l → l ≤ largestLabel → countOf p ≢ capacity → Does capacity p q (grows p (withLeaf p v l))
-  adds-root : {q : PlainCall} → countOf p ≢ 0 → countOf p ≢ capacity → Does capacity p q (grows p (withRoot p (rootIn p 0)))
-  adds-over : {q : PlainCall} {r : ℕ} → r < countOf p → parentOf p r ≡ none → countOf p ≢ capacity → Does capacity p q (grows p (withRoot p r))
+  adds-root : {named : Bool} {opening s : ℕ} → countOf p ≢ 0 → countOf p ≢ capacity
+      → Does capacity p (root named opening s) (grows p (withRoot p (rootIn p 0) named opening))
+  adds-over : {r : ℕ} {named : Bool} {opening s : ℕ} → r < countOf p → parentOf p r ≡ none → countOf p ≢ capacity
+      → Does capacity p (rootOver r named opening s) (grows p (withRoot p r named opening))
   joins : {x v door s : ℕ} → x < countOf p → v < countOf p → 1 ≤ door → door ≤ largestLabel → parentOf p x ≡ none → rootIn p v ≢ x
       → Does capacity p (link x v door s) (record { reply = linked; after = withLink p x v door; joined = treeCount p x })
 
@@ -234,12 +257,17 @@ module _ (capacity : ℕ) (p : PlainList) where
       checked 1 (says-ltb v (countOf p)) (λ h.
       checked 5 (says-label l) (λ i.
       checked 2 room (λ d. adds-leaf h (i .0) (i .1) d))))
-  call-does (root s) = checked 3 (says-eqb s capacity) (λ _. checked 2 room (λ d. either (says-eqb (countOf p) 0) (λ _. adds-first d) (λ z. adds-root z d)))
-  call-does (rootOver x s) =
+  call-does (root named opening s) =
+      checked 3 (says-eqb s capacity) (λ _.
+      checked 5 (says-itself (isOpening named opening)) (λ _.
+      checked 2 room (λ d.
+      either (says-eqb (countOf p) 0) (λ _. adds-first d) (λ z. adds-root z d))))
+  call-does (rootOver x named opening s) =
       checked 3 (says-eqb s capacity) (λ _.
       checked 1 (says-ltb x (countOf p)) (λ h.
+      checked 5 (says-itself (isOpening named opening)) (λ _.
       checked 10 (says-eqb (parentOf p x) none) (λ r.
-      checked 2 room (λ d. adds-over h r d))))
+      checked 2 room (λ d. adds-over h r d)))))
   call-does (link x v door s) =
       checked 3 (says-eqb s capacity) (λ _.
       checked 1 (says-bothKnown p x v) (λ h.

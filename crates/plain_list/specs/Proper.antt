@@ -1,5 +1,6 @@
 -- What holds of a plain list at every moment: its parents form trees, and each node has a label.
 use mathlib.Core.Path.{_≡_, refl, sym, ap, _∙_}
+use mathlib.Core.Bool.{Bool}
 use mathlib.Core.List.{List, [], _∷_}
 use mathlib.Core.Logic.{_≢_}
 use Prim.Native.Nat.{ℕ, suc, _+_, _≤_, _<_}
@@ -79,22 +80,22 @@ module _ {capacity : ℕ} {p : PlainList} (most : capacity ≤ none) (t : Proper
   proper-leaf {v} l h = proper-node {k = t .depth v + 1} l record { alone = λ e. absurd (omega (arith, t .room)); inside = λ _. h; below = λ _. refl }
 
   -- a new root is a first node that the tree of the old one comes under
-  pub proper-root : {r : ℕ} → r < countOf p → parentOf p r ≡ none → Proper capacity (withRoot p r)
-  proper-root {r} l e =
+  pub proper-root : {r : ℕ} (named : Bool) (opening : ℕ) → r < countOf p → parentOf p r ≡ none → Proper capacity (withRoot p r named opening)
+  proper-root {r} named opening l e =
       let q = proper-first in
       let n = node-count p none 0 in
       record {
-        room = omega (arith, t .room, root-count p r);
-        labelled = root-labels p r ∙ ap suc (t .labelled) ∙ sym (root-count p r);
+        room = omega (arith, t .room, root-count p r named opening);
+        labelled = root-labels p r named opening ∙ ap suc (t .labelled) ∙ sym (root-count p r named opening);
         depth = depthUnder (q .depth) (rootIn (withFirst p)) r (q .depth (countOf p) + 1);
-        shape = rw (root-count p r ∙ sym n) (under-depth (q .shape) (root-first q) (omega arith) (node-parent-old p none 0 r l ∙ e) (omega arith)
-            (λ z. omega (arith, root-own q (countOf p) (omega arith) (node-parent-new p none 0))) (root-parent-old p r l) other);
+        shape = rw (root-count p r named opening ∙ sym n) (under-depth (q .shape) (root-first q) (omega arith) (node-parent-old p none 0 r l ∙ e) (omega arith)
+            (λ z. omega (arith, root-own q (countOf p) (omega arith) (node-parent-new p none 0))) (root-parent-old p r named opening l) other);
       }
     where
-      other : (w : ℕ) → w < countOf (withFirst p) → w ≢ r → parentOf (withRoot p r) w ≡ parentOf (withFirst p) w
+      other : (w : ℕ) → w < countOf (withFirst p) → w ≢ r → parentOf (withRoot p r named opening) w ≡ parentOf (withFirst p) w
       other w i d = elim (ℕ-discrete w (countOf p)) [
-        | yes z ↦ rw z (root-parent-new p r ∙ sym (node-parent-new p none 0))
-        | no z ↦ let j : w < countOf p = omega (arith, node-count p none 0) in root-parent-other p r w j d ∙ sym (node-parent-old p none 0 w j)
+        | yes z ↦ rw z (root-parent-new p r named opening ∙ sym (node-parent-new p none 0))
+        | no z ↦ let j : w < countOf p = omega (arith, node-count p none 0) in root-parent-other p r named opening w j d ∙ sym (node-parent-old p none 0 w j)
       ]
 
 -- A link
@@ -119,8 +120,10 @@ module _ {capacity : ℕ} (most : capacity ≤ none) where
       go (nothing d) = t
       go (adds-first d) = proper-first most t d
       go (adds-leaf {l = l} h i j d) = proper-leaf most t d l h
-      go (adds-root z d) = let l : 0 < countOf p = omega arith in proper-root most t d (root-known t 0 l) (root-first t 0 l .top)
-      go (adds-over h r d) = proper-root most t d h r
+      go (adds-root {named = named} {opening} z d) =
+          let l : 0 < countOf p = omega arith in
+          proper-root most t d named opening (root-known t 0 l) (root-first t 0 l .top)
+      go (adds-over {named = named} {opening} h r d) = proper-root most t d named opening h r
       go (joins {door = door} h i j k r d) = proper-link t door h i r d
 
   pub proper-run : {p : PlainList} → Proper capacity p → (qs : List PlainCall) → Proper capacity (plainRun capacity p qs .last)

@@ -1,11 +1,12 @@
 -- Parents and labels that are the plain list's: what they answer, the plain list answers.
-use mathlib.Core.Path.{_≡_, sym, _∙_}
-use mathlib.Core.Bool.{Bool}
+use mathlib.Core.Path.{_≡_, sym, ap, _∙_}
+use mathlib.Core.Bool.{Bool, _&&_}
 use mathlib.Core.Logic.{_≢_}
 use Prim.Native.Nat.{ℕ, _<_}
 use native.Mathlib.Decide.{ℕ-discrete}
 use native.Mathlib.Omega.{arith}
-use Rattle.laws.specs.Test.{Says, says-eq}
+use lib.Dec.{eqb}
+use Rattle.laws.specs.Test.{Says, says-eq, pick}
 use Rattle.tree_laws.specs.Ancestor.{none, Forest}
 use Rattle.tree_laws.specs.AncestorLaws.{trans, anc-in}
 use Rattle.tree_laws.specs.Nca.{Kindred}
@@ -98,25 +99,29 @@ module _ {capacity : ℕ} {p : PlainList} {up up′ label label′ : ℕ → ℕ
       old : (x : ℕ) → x < countOf (withNode p v l) → x ≢ countOf p → x < countOf p
       old x i d = omega (arith, node-count p v l)
 
-  -- a new root: r comes under it, the other old nodes keep their parents
-  pub shows-root : {r : ℕ} → r < countOf p → ((x : ℕ) → x < countOf p → x ≢ r → up′ x ≡ up x) → up′ r ≡ countOf p
-      → up′ (countOf p) ≡ none → label′ (countOf p) ≡ 0 → Shows up′ label′ (withRoot p r)
-  shows-root {r} k stay turned new labelled = record {
-    parents = λ x i. elim (ℕ-discrete x (countOf p)) [
-      | yes e ↦ rw e (new ∙ sym (root-parent-new p r))
-      | no d ↦ let j = old x i d in elim (ℕ-discrete x r) [
-        | yes e ↦ rw e (turned ∙ sym (root-parent-old p r k))
-        | no f ↦ stay x j f ∙ s .parents x j ∙ sym (root-parent-other p r x j f)
-      ]
-    ];
-    labels = λ x i. elim (ℕ-discrete x (countOf p)) [
-      | yes e ↦ rw e (labelled ∙ sym (root-label-new p r (t .labelled)))
-      | no d ↦ let j = old x i d in labels-stay x j ∙ s .labels x j ∙ sym (root-label-old p r (t .labelled) x j)
-    ];
-  }
-    where
-      old : (x : ℕ) → x < countOf (withRoot p r) → x ≢ countOf p → x < countOf p
-      old x i d = omega (arith, root-count p r)
+-- a new root: r comes under it and takes the label of the opening where one is named, the other old nodes keep their parents and labels
+pub shows-root : {capacity : ℕ} {p : PlainList} {up up′ label label′ : ℕ → ℕ} {r : ℕ} → Proper capacity p → Shows up label p → (named : Bool) (opening : ℕ)
+    → ((x : ℕ) → x < countOf p → label′ x ≡ pick (named && eqb x r) opening (label x)) → r < countOf p
+    → ((x : ℕ) → x < countOf p → x ≢ r → up′ x ≡ up x) → up′ r ≡ countOf p → up′ (countOf p) ≡ none → label′ (countOf p) ≡ 0
+    → Shows up′ label′ (withRoot p r named opening)
+shows-root {p = p} {r = r} t s named opening relabelled k stay turned new labelled = record {
+  parents = λ x i. elim (ℕ-discrete x (countOf p)) [
+    | yes e ↦ rw e (new ∙ sym (root-parent-new p r named opening))
+    | no d ↦ let j = old x i d in elim (ℕ-discrete x r) [
+      | yes e ↦ rw e (turned ∙ sym (root-parent-old p r named opening k))
+      | no f ↦ stay x j f ∙ s .parents x j ∙ sym (root-parent-other p r named opening x j f)
+    ]
+  ];
+  labels = λ x i. elim (ℕ-discrete x (countOf p)) [
+    | yes e ↦ rw e (labelled ∙ sym (root-label-new p r named opening (t .labelled)))
+    | no d ↦
+        let j = old x i d in
+        relabelled x j ∙ ap (pick (named && eqb x r) opening) (s .labels x j) ∙ sym (root-label-old p r named opening (t .labelled) x j)
+  ];
+}
+  where
+    old : (x : ℕ) → x < countOf (withRoot p r named opening) → x ≢ countOf p → x < countOf p
+    old x i d = omega (arith, root-count p r named opening)
 
 -- A link: x comes under v and has the label of the door, the other nodes keep theirs
 

@@ -25,8 +25,8 @@ storedParent l x = getD l x none
 abbrev pub storedUnder : PlainList → PlainCall → ℕ
 storedUnder p (first scratch) = none
 storedUnder p (leaf parent label scratch) = parent
-storedUnder p (root scratch) = pick (eqb (countOf p) 0) none (rootIn p 0)
-storedUnder p (rootOver x scratch) = x
+storedUnder p (root named opening scratch) = pick (eqb (countOf p) 0) none (rootIn p 0)
+storedUnder p (rootOver x named opening scratch) = x
 storedUnder p (link x v door scratch) = none
 storedUnder p (question x y) = none
 storedUnder p (alike x y) = none
@@ -40,8 +40,8 @@ relinked p l x v door w = pick (eqb (rootIn p w) x) (parentOf (withLink p x v do
 abbrev pub storedLink : PlainList → StoredList → PlainCall → StoredList
 storedLink p l (first scratch) = l
 storedLink p l (leaf parent label scratch) = l
-storedLink p l (root scratch) = l
-storedLink p l (rootOver x scratch) = l
+storedLink p l (root named opening scratch) = l
+storedLink p l (rootOver x named opening scratch) = l
 storedLink p l (link x v door scratch) = tabulate (relinked p l x v door) (length l)
 storedLink p l (question x y) = l
 storedLink p l (alike x y) = l

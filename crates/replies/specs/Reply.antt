@@ -1,4 +1,5 @@
 -- What a call gives a C host: 0 or 01's refusal number, and the out slice afterwards. A refusal leaves the out slice as it was.
+use mathlib.Core.Bool.{Bool, not}
 use mathlib.Core.List.{List, [], _∷_}
 use Prim.Native.Nat.{ℕ}
 use lib.Dec.{eqb}
@@ -19,6 +20,10 @@ use Rattle.inspect.specs.Outcome.{Outcome as InspectionOutcome, refusal as notI
 -- the count, as it goes in
 abbrev pub stateOf : ℕ → State
 stateOf count = record { count = count }
+
+-- whether an opening is named, as it goes in: 0 is no, any other number yes
+abbrev pub isNamed : ℕ → Bool
+isNamed n = not (eqb n 0)
 
 pub record Reply (A : Type 0) : Type 0 where
   pub number : ℕ

@@ -42,8 +42,8 @@ unasked = code "-"
 abbrev pub letterOf : Call → ℕ
 letterOf (first s) = unasked
 letterOf (leaf v l s) = code "L"
-letterOf (root s) = code "T"
-letterOf (rootOver x s) = unasked
+letterOf (root named opening s) = code "T"
+letterOf (rootOver x named opening s) = unasked
 letterOf (link x v door s) = unasked
 letterOf (question x y) = questionLetter
 letterOf (alike x y) = alikeLetter

@@ -1,5 +1,6 @@
 -- The code's answer is the report, where its parts are those of the call's reply.
 use mathlib.Core.Path.{_≡_, refl}
+use mathlib.Core.Bool.{Bool}
 use mathlib.Core.List.{List, []}
 use lib.IntN.{ℤ}
 use Prim.Native.Nat.{ℕ}
@@ -36,10 +37,10 @@ module _ (t u : Parts) (w w′ : List ℕ) (s : State) (g : Outcome) (r : Served
   unfolding report step
   leaf-report v l scratch e o = rw (← e) (growth-report (leaf v l scratch) u w′ s g r o)
 
-  pub root-report : (scratch : List ℕ) → result u w′ g ≡ addRoot t w (length scratch) s → OfGrowth (letterOf (root scratch)) u s g r
-      → reportOf u w′ r ≡ report (fastOf t w s) (root scratch)
+  pub root-report : (named : Bool) (opening : ℕ) (scratch : List ℕ) → result u w′ g ≡ addRoot t w (length scratch) s named opening
+      → OfGrowth (letterOf (root named opening scratch)) u s g r → reportOf u w′ r ≡ report (fastOf t w s) (root named opening scratch)
   unfolding report step
-  root-report scratch e o = rw (← e) (growth-report (root scratch) u w′ s g r o)
+  root-report named opening scratch e o = rw (← e) (growth-report (root named opening scratch) u w′ s g r o)
 
 -- a question or alike, which changes nothing, prints no level and renumbers no row
 

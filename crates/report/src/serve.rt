@@ -85,10 +85,22 @@ pub fn serve_root(
     tally: &mut [u16],
     scratch: &[u16],
     state: State,
+    named: bool,
+    opening: u16,
 ) -> Served
-    ensures { λ r. ⌜ reportOf (partsOf (now (fields .exit)) (now (numbers .exit)) (now (levels .exit)) (now (ancestors .exit))) (now (tally .exit)) r ≡ report (fastOf (partsOf (now (fields .entry)) (now (numbers .entry)) (now (levels .entry)) (now (ancestors .entry))) (now (tally .entry)) state) (root (now (scratch .entry))) ⌝ }
+    ensures { λ r. ⌜ reportOf (partsOf (now (fields .exit)) (now (numbers .exit)) (now (levels .exit)) (now (ancestors .exit))) (now (tally .exit)) r ≡ report (fastOf (partsOf (now (fields .entry)) (now (numbers .entry)) (now (levels .entry)) (now (ancestors .entry))) (now (tally .entry)) state) (root named opening (now (scratch .entry))) ⌝ }
 {
-    let g = add_root(fields, numbers, levels, ancestors, tally, scratch, state);
+    let g = add_root(
+        fields,
+        numbers,
+        levels,
+        ancestors,
+        tally,
+        scratch,
+        state,
+        named,
+        opening,
+    );
     after_growth(b'T', levels, state, g)
 }
 

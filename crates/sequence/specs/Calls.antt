@@ -8,12 +8,12 @@ use Rattle.plain_list.specs.PlainStep.{PlainCall, first as plainFirst, leaf as 
 use Rattle.plain_list.specs.PlainStep.{question as plainQuestion, alike as plainAlike, inspection as plainInspection}
 
 -- a call by its arguments; the parts and the count are those that the call before it left. The scratch holds anything. `root` is 01's new root,
--- which names no node; `door` is the label that a linked root takes
+-- which names no node; `named` is whether a new root names an opening, the label that the old root takes; `door` is the label that a linked root takes
 pub data Call : Type 0 where
   first : (scratch : List ℕ) → Call
   leaf : (parent label : ℕ) (scratch : List ℕ) → Call
-  root : (scratch : List ℕ) → Call
-  rootOver : (x : ℕ) (scratch : List ℕ) → Call
+  root : (named : Bool) (opening : ℕ) (scratch : List ℕ) → Call
+  rootOver : (x : ℕ) (named : Bool) (opening : ℕ) (scratch : List ℕ) → Call
   link : (x v door : ℕ) (scratch : List ℕ) → Call
   question : (x y : ℕ) → Call
   alike : (x y : ℕ) → Call
@@ -23,8 +23,8 @@ pub data Call : Type 0 where
 abbrev pub told : Call → PlainCall
 told (first s) = plainFirst (length s)
 told (leaf v l s) = plainLeaf v l (length s)
-told (root s) = plainRoot (length s)
-told (rootOver x s) = plainOver x (length s)
+told (root named opening s) = plainRoot named opening (length s)
+told (rootOver x named opening s) = plainOver x named opening (length s)
 told (link x v door s) = plainLink x v door (length s)
 told (question x y) = plainQuestion x y
 told (alike x y) = plainAlike x y

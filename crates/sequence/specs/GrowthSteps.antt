@@ -1,5 +1,6 @@
 -- First nodes, leaves and new roots, where the table stands beside the plain list: refused as it refuses, or served.
 use mathlib.Core.Path.{_≡_, refl, sym, ap, _∙_}
+use mathlib.Core.Bool.{Bool, true, false}
 use mathlib.Core.Logic.{_≢_}
 use mathlib.Core.List.{List}
 use Prim.Native.Nat.{ℕ, _≤_, _<_}
@@ -7,7 +8,7 @@ use native.Mathlib.Decide.{decLt, ℕ-discrete}
 use native.Mathlib.Omega.{arith}
 use borrow.Author.Tests.{eq-eqb, ne-eqb}
 use lib.ListN.{length}
-use Rattle.laws.specs.Test.{says-true, says-false}
+use Rattle.laws.specs.Test.{says-true, says-false, says-get}
 use Rattle.tree_laws.specs.Ancestor.{none}
 use Rattle.table.specs.declared.refusal.Refusal.{Refusal}
 use Rattle.table.specs.declared.refusal.Refusal.the-variants.{UnknownNode, Full, Misfit, BadLabel, NotRoot}
@@ -16,16 +17,17 @@ use Rattle.table.specs.PlainTree.{plain, root as rootOf}
 use Rattle.table.specs.Rules.{labelLimit}
 use Rattle.table_laws.specs.TreeTests.{root-is}
 use Rattle.growth_plan.specs.declared.row.Planned.the-variants.{Refuse}
-use Rattle.growth_plan.specs.Plan.{firstPlan, leafPlan, overPlan, rootPlan}
-use Rattle.growth_plan.specs.PlanLaws.{leaf-scratch, leaf-unknown, leaf-label, leaf-full, first-scratch, first-full, root-scratch, root-full}
-use Rattle.growth_plan.specs.PlanLaws.{over-scratch, over-unknown, over-other, over-full}
+use Rattle.growth_plan.specs.Plan.{isOpening, firstPlan, leafPlan, overPlan, rootPlan}
+use Rattle.growth_plan.specs.PlanLaws.{leaf-scratch, leaf-unknown, leaf-label, leaf-full, first-scratch, first-full, root-scratch, root-label, root-full}
+use Rattle.growth_plan.specs.PlanLaws.{over-scratch, over-unknown, over-label, over-other, over-full}
 use Rattle.growth.specs.Growth.{Result, addFirst, addLeaf, addOver, addRoot}
 use Rattle.growth_laws.specs.Growth.{leaf as newLeaf, root as newRoot}
+use Rattle.growth_exact.specs.GivenLabel.{says-label, says-opening}
 use Rattle.growth_exact.specs.GrowthExact.{GrownExactly, tableGrown, standing-is, rooted, leaf-exact, over-exact, root-exact}
 use Rattle.growth_exact.specs.FirstExact.{StartedExactly, first-exact, root-first-exact}
 use Rattle.plain_list.specs.PlainList.{PlainList, countOf, parentOf, withFirst, withLeaf, withRoot}
 use Rattle.plain_list.specs.PlainListLaws.{node-count, root-count}
-use Rattle.plain_list.specs.PlainStep.{first as plainFirst, leaf as plainLeaf, root as plainRoot, rootOver as plainOver, refusalOf, plainOutcome}
+use Rattle.plain_list.specs.PlainStep.{first as plainFirst, leaf as plainLeaf, root as plainRoot, rootOver as plainOver, isOpening as plainOpening, refusalOf, plainOutcome}
 use Rattle.plain_list.specs.PlainStepLaws as plainly
 use Rattle.plain_list.specs.Proper.{root-first, proper-first, proper-leaf, proper-root}
 use Rattle.plain_list.specs.Shows.{shows-node, shows-root}
@@ -35,7 +37,12 @@ use Rattle.sequence.specs.Run.{Fast, tableIn, step}
 use Rattle.sequence.specs.Invariant.{Stands}
 use Rattle.sequence.specs.StepExact.{asks-leaf, asks-over, asks-root, begins-first, begins-root, StepStands}
 use Rattle.sequence.specs.Trees.{in-use, root-top, top-root, root-known, root-shown}
-use Rattle.sequence.specs.Growths.{says-label, Next, grown-step, started-step, fit, grown-refused}
+use Rattle.sequence.specs.Growths.{Next, grown-step, started-step, fit, grown-refused}
+
+-- both ask the same of an opening
+opening-same : (named : Bool) (opening : ℕ) → plainOpening named opening ≡ isOpening named opening
+opening-same true opening = refl
+opening-same false opening = refl
 
 module _ {c : ℕ} {f : Fast} {p : PlainList} {stored : StoredList} {total joinings : ℕ} (s : Stands c f p stored total joinings) where
   small : c ≤ none
@@ -64,15 +71,15 @@ module _ {c : ℕ} {f : Fast} {p : PlainList} {stored : StoredList} {total joini
     count = node-count p v l;
   }
 
-  root-next : {r : ℕ} {o : Result} → countOf p ≢ c → r < countOf p → parentOf p r ≡ none → GrownExactly c (f .parts) (f .state) (newRoot r) o
-      → Next s (tableGrown (f .state) o) (withRoot p r)
-  root-next {r} {o} n h t e = record {
-    proper = proper-root small (s .proper) n h t;
-    shows = shows-root (s .proper) (s .shows) (λ x i. e .plain .labelOld x (in-use s i)) h
+  root-next : (named : Bool) (opening : ℕ) {r : ℕ} {o : Result} → countOf p ≢ c → r < countOf p → parentOf p r ≡ none
+      → GrownExactly c (f .parts) (f .state) (newRoot r named opening) o → Next s (tableGrown (f .state) o) (withRoot p r named opening)
+  root-next named opening {r} {o} n h t e = record {
+    proper = proper-root small (s .proper) n named opening h t;
+    shows = shows-root (s .proper) (s .shows) named opening (λ x i. e .plain .labelOld x (in-use s i)) h
         (λ x i d. e .plain .parentOld x (in-use s i) ∙ (rw (ne-eqb x r d) refl))
         (e .plain .parentOld r (in-use s h) ∙ (rw (eq-eqb r r refl) (sym (s .count))))
         (ap (plain (tableGrown (f .state) o)) (s .count) ∙ e .plain .parentNew) (ap (tableGrown (f .state) o .label) (s .count) ∙ e .plain .labelNew);
-    count = root-count p r;
+    count = root-count p r named opening;
   }
 
   -- First node
@@ -148,79 +155,96 @@ module _ {c : ℕ} {f : Fast} {p : PlainList} {stored : StoredList} {total joini
 
   -- 01's new root
 
-  module _ (scratch : List ℕ) where
-    root-refused : (r : Refusal) → plainOutcome c p (plainRoot (length scratch)) ≡ refusalOf (numberOf r) p
-        → Refuse r ≡ rootPlan (f .parts) (length scratch) (f .state)
-        → StepStands c f p stored total joinings (root scratch) (plainOutcome c p (plainRoot (length scratch))) (step f (root scratch))
+  module _ (named : Bool) (opening : ℕ) (scratch : List ℕ) where
+    abbrev RootStep : Type 0
+    RootStep = StepStands c f p stored total joinings (root named opening scratch) (plainOutcome c p (plainRoot named opening (length scratch))) (step f (root named opening scratch))
+
+    root-refused : (r : Refusal) → plainOutcome c p (plainRoot named opening (length scratch)) ≡ refusalOf (numberOf r) p
+        → Refuse r ≡ rootPlan (f .parts) (length scratch) (f .state) named opening → RootStep
     unfolding step addRoot
-    root-refused r e i = grown-refused s (root scratch) r _ e i
+    root-refused r e i = grown-refused s (root named opening scratch) r _ e i
 
-    root-served-first : length scratch ≡ c → countOf p ≢ c → countOf p ≡ 0
-        → StepStands c f p stored total joinings (root scratch) (plainOutcome c p (plainRoot (length scratch))) (step f (root scratch))
-    unfolding step
-    root-served-first e n z =
-        let k : f .state .count ≡ 0 = sym (s .count) ∙ z in
-        let x = root-first-exact (f .parts) (f .state) (s .fits) (s .rules) (room n) (f .tally) (s .tally) (length scratch) e k in
-        rw (plainly.root-served-first c p (length scratch) e n z) (started-step s _ x (begins-root k) (first-next n x))
+    module _ (e : length scratch ≡ c) (i : isOpening named opening ≡ true) where
+      root-served-first : countOf p ≢ c → countOf p ≡ 0 → RootStep
+      unfolding step
+      root-served-first n z =
+          let k : f .state .count ≡ 0 = sym (s .count) ∙ z in
+          let o = says-get (says-opening named opening) i in
+          let x = root-first-exact (f .parts) (f .state) (s .fits) (s .rules) (room n) (f .tally) (s .tally) (length scratch) e named opening o k in
+          rw (plainly.root-served-first c p named opening (length scratch) e (opening-same named opening ∙ i) n z) (started-step s _ x (begins-root k) (first-next n x))
 
-    root-served : length scratch ≡ c → countOf p ≢ c → countOf p ≢ 0
-        → StepStands c f p stored total joinings (root scratch) (plainOutcome c p (plainRoot (length scratch))) (step f (root scratch))
-    unfolding step
-    root-served e n z =
-        let l : 0 < countOf p = omega arith in
-        let x = root-exact (f .parts) (f .tally) (f .state) (s .fits) (s .rules) (s .tally) (length scratch) e (room n) (in-use s l) in
-        let t : parentOf p (rootOf (tableIn f) 0) ≡ none = ap (parentOf p) (sym (root-shown s 0 l)) ∙ root-first (s .proper) 0 l .top in
-        rw (plainly.root-served c p (length scratch) e n z, root-shown s 0 l) (grown-step s _ x asks-root (root-next n (root-known s 0 l) t x))
+      root-served : countOf p ≢ c → countOf p ≢ 0 → RootStep
+      unfolding step
+      root-served n z =
+          let l : 0 < countOf p = omega arith in
+          let o = says-get (says-opening named opening) i in
+          let x = root-exact (f .parts) (f .tally) (f .state) (s .fits) (s .rules) (s .tally) (length scratch) e (room n) named opening o (in-use s l) in
+          let t : parentOf p (rootOf (tableIn f) 0) ≡ none = ap (parentOf p) (sym (root-shown s 0 l)) ∙ root-first (s .proper) 0 l .top in
+          rw (plainly.root-served c p named opening (length scratch) e (opening-same named opening ∙ i) n z, root-shown s 0 l)
+          (grown-step s _ x asks-root (root-next named opening n (root-known s 0 l) t x))
 
-    pub root-step : StepStands c f p stored total joinings (root scratch) (plainOutcome c p (plainRoot (length scratch))) (step f (root scratch))
+    root-opened : length scratch ≡ c → (b : Bool) → isOpening named opening ≡ b → RootStep
+    root-opened e false i = root-refused BadLabel (plainly.root-no-label c p named opening (length scratch) e (opening-same named opening ∙ i))
+        (root-label (f .parts) (length scratch) (f .state) named opening c (fit s) e i)
+    root-opened e true i = elim (ℕ-discrete (countOf p) c) [
+      | yes w ↦ root-refused Full (plainly.root-full c p named opening (length scratch) e (opening-same named opening ∙ i) w)
+          (root-full (f .parts) (length scratch) (f .state) named opening c (fit s) e i (sym (s .count) ∙ w))
+      | no w ↦ elim (ℕ-discrete (countOf p) 0) [ yes z ↦ root-served-first e i w z | no z ↦ root-served e i w z ]
+    ]
+
+    pub root-step : RootStep
     root-step = elim (ℕ-discrete (length scratch) c) [
-      | no d ↦ root-refused Misfit (plainly.root-misfit c p (length scratch) d) (root-scratch (f .parts) (length scratch) (f .state) c (fit s) d)
-      | yes e ↦ elim (ℕ-discrete (countOf p) c) [
-        | yes w ↦ root-refused Full (plainly.root-full c p (length scratch) e w)
-            (root-full (f .parts) (length scratch) (f .state) c (fit s) e (sym (s .count) ∙ w))
-        | no w ↦ elim (ℕ-discrete (countOf p) 0) [ yes z ↦ root-served-first e w z | no z ↦ root-served e w z ]
-      ]
+      | no d ↦ root-refused Misfit (plainly.root-misfit c p named opening (length scratch) d) (root-scratch (f .parts) (length scratch) (f .state) named opening c (fit s) d)
+      | yes e ↦ root-opened e (isOpening named opening) refl
     ]
 
   -- A new root over x
 
-  module _ (x : ℕ) (scratch : List ℕ) where
-    over-refused : (r : Refusal) → plainOutcome c p (plainOver x (length scratch)) ≡ refusalOf (numberOf r) p
-        → Refuse r ≡ overPlan (f .parts) (length scratch) (f .state) x
-        → StepStands c f p stored total joinings (rootOver x scratch) (plainOutcome c p (plainOver x (length scratch))) (step f (rootOver x scratch))
+  module _ (x : ℕ) (named : Bool) (opening : ℕ) (scratch : List ℕ) where
+    abbrev OverStep : Type 0
+    OverStep = StepStands c f p stored total joinings (rootOver x named opening scratch) (plainOutcome c p (plainOver x named opening (length scratch)))
+        (step f (rootOver x named opening scratch))
+
+    over-refused : (r : Refusal) → plainOutcome c p (plainOver x named opening (length scratch)) ≡ refusalOf (numberOf r) p
+        → Refuse r ≡ overPlan (f .parts) (length scratch) (f .state) x named opening → OverStep
     unfolding step addOver
-    over-refused r e i = grown-refused s (rootOver x scratch) r _ e i
+    over-refused r e i = grown-refused s (rootOver x named opening scratch) r _ e i
 
-    over-served : length scratch ≡ c → x < countOf p → parentOf p x ≡ none → countOf p ≢ c
-        → StepStands c f p stored total joinings (rootOver x scratch) (plainOutcome c p (plainOver x (length scratch))) (step f (rootOver x scratch))
-    unfolding step
-    over-served e h t n =
-        let y = over-exact (f .parts) (f .tally) (f .state) (s .fits) (s .rules) (s .tally) (length scratch) e (room n) x (in-use s h) (top-root s h t) in
-        rw (plainly.over-served c p x (length scratch) e h t n) (grown-step s _ y asks-over (root-next n h t y))
+    module _ (e : length scratch ≡ c) (h : x < countOf p) (i : isOpening named opening ≡ true) where
+      over-served : parentOf p x ≡ none → countOf p ≢ c → OverStep
+      unfolding step
+      over-served t n =
+          let o = says-get (says-opening named opening) i in
+          let y = over-exact (f .parts) (f .tally) (f .state) (s .fits) (s .rules) (s .tally) (length scratch) e (room n) named opening o x (in-use s h) (top-root s h t) in
+          rw (plainly.over-served c p x named opening (length scratch) e h (opening-same named opening ∙ i) t n) (grown-step s _ y asks-over (root-next named opening n h t y))
 
-    over-known : length scratch ≡ c → x < countOf p
-        → StepStands c f p stored total joinings (rootOver x scratch) (plainOutcome c p (plainOver x (length scratch))) (step f (rootOver x scratch))
-    over-known e h =
-        let g = standing-is (f .parts) (f .state) (s .rules) in
-        let l = in-use s h in
-        let some = rooted (f .parts) (f .state) (s .fits) (s .rules) x l in
-        let read = root-is (f .parts) (f .state .count) (s .rules) (s .fits .most) x l in
-        elim (ℕ-discrete (parentOf p x) none) [
-          | no d ↦ over-refused NotRoot (plainly.over-no-root c p x (length scratch) e h d)
-              (over-other (f .parts) (length scratch) (f .state) x c (fit s) e l g some (λ z. d (root-top s h (sym read ∙ z))))
-          | yes t ↦ elim (ℕ-discrete (countOf p) c) [
-            | yes w ↦ over-refused Full (plainly.over-full c p x (length scratch) e h t w)
-                (over-full (f .parts) (length scratch) (f .state) x c (fit s) e l g some (read ∙ top-root s h t) (sym (s .count) ∙ w))
-            | no w ↦ over-served e h t w
+      over-known : OverStep
+      over-known =
+          let g = standing-is (f .parts) (f .state) (s .rules) in
+          let l = in-use s h in
+          let some = rooted (f .parts) (f .state) (s .fits) (s .rules) x l in
+          let read = root-is (f .parts) (f .state .count) (s .rules) (s .fits .most) x l in
+          elim (ℕ-discrete (parentOf p x) none) [
+            | no d ↦ over-refused NotRoot (plainly.over-no-root c p x named opening (length scratch) e h (opening-same named opening ∙ i) d)
+                (over-other (f .parts) (length scratch) (f .state) x named opening c (fit s) e l i g some (λ z. d (root-top s h (sym read ∙ z))))
+            | yes t ↦ elim (ℕ-discrete (countOf p) c) [
+              | yes w ↦ over-refused Full (plainly.over-full c p x named opening (length scratch) e h (opening-same named opening ∙ i) t w)
+                  (over-full (f .parts) (length scratch) (f .state) x named opening c (fit s) e l i g some (read ∙ top-root s h t) (sym (s .count) ∙ w))
+              | no w ↦ over-served t w
+            ]
           ]
-        ]
 
-    pub over-step : StepStands c f p stored total joinings (rootOver x scratch) (plainOutcome c p (plainOver x (length scratch))) (step f (rootOver x scratch))
+    over-opened : length scratch ≡ c → x < countOf p → (b : Bool) → isOpening named opening ≡ b → OverStep
+    over-opened e h false i = over-refused BadLabel (plainly.over-no-label c p x named opening (length scratch) e h (opening-same named opening ∙ i))
+        (over-label (f .parts) (length scratch) (f .state) x named opening c (fit s) e (in-use s h) i)
+    over-opened e h true i = over-known e h i
+
+    pub over-step : OverStep
     over-step = elim (ℕ-discrete (length scratch) c) [
-      | no d ↦ over-refused Misfit (plainly.over-misfit c p x (length scratch) d) (over-scratch (f .parts) (length scratch) (f .state) x c (fit s) d)
+      | no d ↦ over-refused Misfit (plainly.over-misfit c p x named opening (length scratch) d) (over-scratch (f .parts) (length scratch) (f .state) x named opening c (fit s) d)
       | yes e ↦ elim (decLt x (countOf p)) [
-        | no d ↦ over-refused UnknownNode (plainly.over-unknown c p x (length scratch) e (omega arith))
-            (over-unknown (f .parts) (length scratch) (f .state) x c (fit s) e (omega (arith, s .count)))
-        | yes h ↦ over-known e h
+        | no d ↦ over-refused UnknownNode (plainly.over-unknown c p x named opening (length scratch) e (omega arith))
+            (over-unknown (f .parts) (length scratch) (f .state) x named opening c (fit s) e (omega (arith, s .count)))
+        | yes h ↦ over-opened e h (isOpening named opening) refl
       ]
     ]

@@ -1,9 +1,8 @@
 -- A growth, where the table stands beside the plain list: served, and the table stands beside it again, or refused as it refuses.
 use mathlib.Core.Path.{_≡_, refl, sym, ap, _∙_}
-use Prim.Native.Nat.{ℕ, suc, _≤_, _<_}
+use Prim.Native.Nat.{ℕ, suc, _<_}
 use native.Mathlib.Omega.{arith}
 use borrow.Author.Tests.{eq-eqb, ne-eqb}
-use Rattle.laws.specs.Test.{Says, says-and, says-leb}
 use Rattle.tree_laws.specs.Ancestor.{none}
 use Rattle.table.specs.declared.capacity.Fit.the-variants.{Capacity}
 use Rattle.table.specs.declared.refusal.Refusal.{Refusal}
@@ -13,11 +12,9 @@ use Rattle.table.specs.Table.{Table}
 use Rattle.layer.specs.Layer.{parent}
 use Rattle.table.specs.PlainTree.{plain}
 use Rattle.table.specs.CapacityLaws.{fits-told}
-use Rattle.table.specs.Rules.{labelLimit}
 use Rattle.table.specs.Rules.{numbered}
 use Rattle.growth_plan.specs.declared.row.Planned.{Planned}
 use Rattle.growth_plan.specs.declared.row.Planned.the-variants.{Refuse}
-use Rattle.growth_plan.specs.Plan.{isLabel}
 use Rattle.growth.specs.Outcome.{Outcome}
 use Rattle.tally.specs.FitLaws.{with-told}
 use Rattle.growth.specs.Growth.{Result, grownBy}
@@ -45,10 +42,6 @@ use Rattle.sequence.specs.Tally.{tally-shown}
 use Rattle.sequence.specs.Trees.{root-shown}
 use Rattle.sequence.specs.AskedSteps.{steps-by, still-refused}
 
--- what the calls ask of a label
-pub says-label : (l : ℕ) → Says ((1 ≤ l) × (l ≤ labelLimit)) (isLabel l)
-says-label l = says-and (says-leb 1 l) (λ _. says-leb l labelLimit)
-
 node-agrees : {a b : ℕ} (k h : ℕ) → a ≡ b → Agrees (plainNode a) (node b k h)
 node-agrees {a} {b} k h e = rw e (nodes b k h)
 
@@ -64,7 +57,7 @@ module _ {c : ℕ} {f : Fast} {p : PlainList} {stored : StoredList} {total joini
   -- the stored list has the new node under the row that the table has it under
   under-asked : {q : Call} {g : Growth} → Named (tableIn f) g → Asks (tableIn f) q g → parentOf g ≡ storedUnder p (told q)
   under-asked n asks-leaf = refl
-  under-asked (named-root l e) asks-root =
+  under-asked (named-root l e o) asks-root =
       let k : 0 < countOf p = omega (arith, s .count) in
       sym (root-shown s 0 k) ∙ (rw (ne-eqb (countOf p) 0 (λ z. omega arith)) refl)
   under-asked n asks-over = refl

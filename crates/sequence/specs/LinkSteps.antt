@@ -21,6 +21,7 @@ use Rattle.layer.specs.Layer.{parent}
 use Rattle.layer.specs.StoredTree.{first}
 use Rattle.table.specs.Rules.{labelLimit}
 use Rattle.growth_plan.specs.Plan.{isLabel}
+use Rattle.growth_exact.specs.GivenLabel.{says-label}
 use Rattle.link_laws.specs.Link.{Linkable, target}
 use Rattle.link_laws.specs.LinkLaws.{link-stored}
 use Rattle.link_laws.specs.Order.{isOfTree, treeRows}
@@ -43,7 +44,6 @@ use Rattle.sequence.specs.StepExact.{joinings, StepStands, few-rows}
 use Rattle.sequence.specs.Tally.{tally-shown}
 use Rattle.sequence.specs.Trees.{in-use, known, tree-roots, roots-tree, root-top, top-root}
 use Rattle.sequence.specs.AskedSteps.{steps-by, still-refused}
-use Rattle.sequence.specs.Growths.{says-label}
 
 module _ {c : ℕ} {f : Fast} {p : PlainList} {stored : StoredList} {total joined : ℕ} (s : Stands c f p stored total joined) (x v door : ℕ) where
   -- The tree of a root x

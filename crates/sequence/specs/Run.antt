@@ -78,8 +78,8 @@ inspectionReply (inspectionPasses b) = passes b
 unfoldable pub step : Fast → Call → Turn
 step f (first s) = afterGrowth (f .state) (addFirst (f .parts) (f .tally) (length s) (f .state))
 step f (leaf v l s) = afterGrowth (f .state) (addLeaf (f .parts) (f .tally) (length s) (f .state) v l)
-step f (root s) = afterGrowth (f .state) (addRoot (f .parts) (f .tally) (length s) (f .state))
-step f (rootOver x s) = afterGrowth (f .state) (addOver (f .parts) (f .tally) (length s) (f .state) x)
+step f (root named opening s) = afterGrowth (f .state) (addRoot (f .parts) (f .tally) (length s) (f .state) named opening)
+step f (rootOver x named opening s) = afterGrowth (f .state) (addOver (f .parts) (f .tally) (length s) (f .state) x named opening)
 step f (link x v door s) = afterLink (f .state) (linkBy (f .parts) (f .tally) (length s) (f .state) x v door)
 step f (question x y) = replies f (questionReply (ask (f .parts) (f .state) x y))
 step f (alike x y) = replies f (alikeReply (compare (f .parts) (f .state) x y))

@@ -69,8 +69,8 @@ module _ {c : ℕ} {f : Fast} {p : PlainList} {l : StoredList} {total joinings :
   pub step-exact : (q : Call) → StepStands c f p l total joinings q (plainOutcome c p (told q)) (step f q)
   step-exact (first scratch) = first-step s scratch
   step-exact (leaf v l scratch) = leaf-step s v l scratch
-  step-exact (root scratch) = root-step s scratch
-  step-exact (rootOver x scratch) = over-step s x scratch
+  step-exact (root named opening scratch) = root-step s named opening scratch
+  step-exact (rootOver x named opening scratch) = over-step s x named opening scratch
   step-exact (link x v door scratch) = link-step s x v door scratch
   step-exact (question x y) = question-step s x y
   step-exact (alike x y) = alike-step s x y

@@ -1,5 +1,6 @@
 -- What one call does, where the table stands beside the plain list (01, "Demand 3 and the plain list"; 02, "Coupled rooms").
 use mathlib.Core.Path.{_≡_, refl}
+use mathlib.Core.Bool.{Bool}
 use mathlib.Core.Logic.{_≢_}
 use mathlib.Core.List.{List}
 use Prim.Native.Nat.{ℕ, _+_}
@@ -32,13 +33,13 @@ use Rattle.sequence.specs.Tally.{tally-shown}
 -- the growth of table t that a call asks for; 01's new root goes over that of the tree of node 0
 pub data Asks (t : Table) : Call → Growth → Type 0 where
   asks-leaf : {v l : ℕ} {s : List ℕ} → Asks t (leaf v l s) (newLeaf v l)
-  asks-root : {s : List ℕ} → Asks t (root s) (newRoot (rootOf t 0))
-  asks-over : {x : ℕ} {s : List ℕ} → Asks t (rootOver x s) (newRoot x)
+  asks-root : {named : Bool} {opening : ℕ} {s : List ℕ} → Asks t (root named opening s) (newRoot (rootOf t 0) named opening)
+  asks-over : {x : ℕ} {named : Bool} {opening : ℕ} {s : List ℕ} → Asks t (rootOver x named opening s) (newRoot x named opening)
 
 -- a call that begins a tree; 01's new root does where there is no node
 pub data Begins (t : Table) : Call → Type 0 where
   begins-first : {s : List ℕ} → Begins t (first s)
-  begins-root : {s : List ℕ} → t .layer .count ≡ 0 → Begins t (root s)
+  begins-root : {named : Bool} {opening : ℕ} {s : List ℕ} → t .layer .count ≡ 0 → Begins t (root named opening s)
 
 -- by call q table t, of capacity c, became table d, k is how many rows were renumbered, and h is their head; l is the stored list after the call. What the
 -- frame names did not change

@@ -1,4 +1,4 @@
--- The definitions that a growth and a question are evaluated by: to unfold `engine` is to unfold them all.
+-- The definitions that a growth, a question and alike are evaluated by: to unfold `engine` is to unfold them all.
 use Rattle.laws.specs.Fourth.{fourth}
 use Rattle.tree_laws.specs.Compressed.{isApex}
 use Rattle.tree_laws.specs.StoredFromCompressed.{pathRow, higher, branchAt}
@@ -54,6 +54,9 @@ use Rattle.query.specs.Node.{isNode}
 use Rattle.query.specs.Line.{isMinus}
 use Rattle.query.specs.PlainAnswer.{lowerX, lowerY, isRead, lowered, plainFrom, plainAnswer}
 use Rattle.query.specs.Question.{isServed, served as answerServed, question}
+use Rattle.alike.specs.PlainParent.{towardRoot, plainUp}
+use Rattle.alike.specs.Walk.{turnAt}
+use Rattle.alike.specs.Alike.{walked, served as alikeServed, alike}
 use Rattle.sequence.specs.Run.{step}
 
 unfoldable pub engine : Unit {0}
@@ -69,5 +72,6 @@ unfolding fourth
     rootPlan loneFields loneNumbers loneEntries marked planStored served startedFields treeStarted grownAt grownBy addLeaf addRoot
     soughtIn covers arrive climb atEntry pastEntry pastReach pastSpan sideFrom isOnRow forked meeting branchOf join between storedFrom
     isNode isMinus lowerX lowerY isRead lowered plainFrom plainAnswer isServed answerServed asked question
+    towardRoot plainUp turnAt walked alikeServed alike
     step
 engine = tt

@@ -2,3 +2,4 @@ pub mod Engine
 pub mod Cases
 pub mod StarredCases
 pub mod WorkedLog
+pub mod OpeningsLog

@@ -1,5 +1,6 @@
 -- 01's log prints 01's nine lines, T and L with the head last (02), and an empty log header and end: all of it is evaluated.
 use mathlib.Core.Path.{_≡_, refl}
+use mathlib.Core.Bool.{false}
 use mathlib.Core.List.{List, [], _∷_}
 use Prim.Native.Nat.{ℕ}
 use Rattle.tree_laws.specs.Ancestor.{none}
@@ -44,19 +45,19 @@ worked-log = refl
 -- and by the plain list, where the seven calls renumber so many rows, all headed by row 0
 abbrev workedItems : List Item
 workedItems =
-    whole (call (root scratch))
+    whole (call (root false 0 scratch))
     ∷ whole (call (leaf 0 7 scratch))
     ∷ whole (call (leaf 1 9 scratch))
     ∷ whole (call (question 1 2))
     ∷ whole (call (leaf 5 7 scratch))
-    ∷ whole (call (root scratch))
+    ∷ whole (call (root false 0 scratch))
     ∷ whole (call (question 2 3))
     ∷ []
 
-abbrev headedBy0 : ℕ → Renumbering
+abbrev pub headedBy0 : ℕ → Renumbering
 headedBy0 k = record { rows = k; head = 0 }
 
-abbrev still : Renumbering
+abbrev pub still : Renumbering
 still = record { rows = 0; head = none }
 
 pub worked-listing : listing workedItems (headedBy0 1 ∷ headedBy0 2 ∷ headedBy0 3 ∷ still ∷ still ∷ headedBy0 4 ∷ still ∷ []) ≡ nineLines

@@ -1,4 +1,5 @@
--- The line of each tree, from its first row to its root.
+-- The line of each tree, from its first row to its root, and the root itself.
+use mathlib.Core.Path.{_≡_, ap, sym, _∙_}
 use Prim.Native.Nat.{ℕ, _≤_, _<_}
 use Rattle.tree_laws.specs.Ancestor.{Anc}
 use Rattle.tree_laws.specs.AncestorLaws.{decAnc}
@@ -18,6 +19,12 @@ module _ {capacity : ℕ} {t : Table} (r : Rules capacity t) (fits : capacity �
   root-in {f} i =
       let s = r .one .lines .root f (first-in (numbered r fits) i) (i .is .top) in
       record { inUse = s .inUse; is = record { over = s .over; top = i .is .top } }
+
+  -- and has label 0
+  pub root-label : {x : ℕ} → x < t .layer .count → root t x ≡ x → t .label x ≡ 0
+  root-label {x} l e =
+      let i = in-tree (numbered r fits) x l in
+      ap (t .label) (sym e) ∙ r .one .labels .root (first (t .layer) x) (first-in (numbered r fits) i) (i .is .top)
 
   -- a row of the tree of f lies on the line exactly where it is over that tree's root
   pub line-over : {f x : ℕ} → InTree (t .layer) f x → OnLine t x → Anc (parent (t .layer)) x (t .root f)

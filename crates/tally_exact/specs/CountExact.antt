@@ -88,6 +88,17 @@ counted-tallied {label} {label′} {n} {k} {w} t e i = counts-tallied (raised w 
     more : (j : ℕ) → carriers label′ (suc n) j ≡ bit (eqb k j) + carriers label n j
     more j = rw (← add-one n) (carriers-more label′ n j ∙ rw (i, carriers-same label label′ n e j))
 
+-- a node more of label 0, and node x, which had label 0, has label k
+pub opened-tallied : {label label′ : ℕ → ℕ} {n x k : ℕ} {w : List ℕ} → Tallied label n w → x < n → label x ≡ 0 → label′ x ≡ k → ((y : ℕ) → y < n → y ≢ x → label′ y ≡ label y) → label′ n ≡ 0 → Tallied label′ (suc n) (counted w k)
+opened-tallied {label} {label′} {n} {x} {k} {w} t l i o e z = counts-tallied (raised w k) (length-set w k (getD w k 0 + 1) ∙ t .long) (λ j h.
+    rw (← add-one n) (omega (
+      arith,
+      raised-at w k j (omega (arith, t .long)),
+      t .counts j h,
+      rw z at (carriers-more label′ n j),
+      rw (i, o) at (carriers-at label label′ n x l e j),
+    )))
+
 -- a node that had the one label has the other
 pub moved-tallied : {label label′ : ℕ → ℕ} {n x from to : ℕ} {w : List ℕ} → Tallied label n w → x < n → label x ≡ from → label′ x ≡ to → from ≤ labelLimit → ((y : ℕ) → y < n → y ≢ x → label′ y ≡ label y) → Tallied label′ n (moved w from to)
 moved-tallied {label} {label′} {n} {x} {from} {to} {w} t l i o m e = counts-tallied (raised (lowered w from) to) long (λ j h. omega (

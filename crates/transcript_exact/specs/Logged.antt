@@ -11,7 +11,7 @@ use Rattle.turn.specs.Asked.{Asked, call, nothing, askedBy}
 
 pub data Logged : Call → Type 0 where
   a-leaf : {v l : ℕ} {s : List ℕ} → Logged (leaf v l s)
-  a-root : {s : List ℕ} → Logged (root s)
+  a-root : {named : Bool} {opening : ℕ} {s : List ℕ} → Logged (root named opening s)
   a-question : {x y : ℕ} → Logged (question x y)
   an-alike : {x y : ℕ} → Logged (alike x y)
 

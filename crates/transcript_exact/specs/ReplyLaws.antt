@@ -16,7 +16,7 @@ use Rattle.plain_list.specs.PlainList.{PlainList, countOf, withLeaf, withFirst,
 use Rattle.plain_list.specs.PlainListLaws.{node-count, root-count}
 use Rattle.plain_list.specs.PlainStep.{leaf as plainLeaf, root as plainRoot, question as plainQuestion, alike as plainAlike}
 use Rattle.plain_list.specs.PlainStep.{PlainReply, refusal as plainRefusal, node as plainNode, answered as plainAnswered, same as plainSame}
-use Rattle.plain_list.specs.PlainStep.{PlainOutcome, replies, refusalOf, unless, grows, isLabel, hasRoom, bothKnown, rootIn, asked as askedOf, plainOutcome}
+use Rattle.plain_list.specs.PlainStep.{PlainOutcome, replies, refusalOf, unless, grows, isLabel, isOpening, hasRoom, bothKnown, rootIn, asked as askedOf, plainOutcome}
 use Rattle.plain_list.specs.StoredList.{StoredList}
 use Rattle.sequence.specs.Calls.{Call, leaf, root, question, alike, told, Reply, refusal, node}
 use Rattle.sequence.specs.Run.{Fast, tableIn, Turn, step, run, rowsIn, totalIn}
@@ -51,15 +51,17 @@ module _ (c : ℕ) (p : PlainList) where
       go true true true false = not-grown 2
       go true true true true = one-more (node-count p v l)
 
-  root-outcome : (s : ℕ) → GrowthOutcome p (plainOutcome c p (plainRoot s))
+  root-outcome : (named : Bool) (opening s : ℕ) → GrowthOutcome p (plainOutcome c p (plainRoot named opening s))
   unfolding plainOutcome
-  root-outcome s = go (eqb s c) (hasRoom c p) (eqb (countOf p) 0)
+  root-outcome named opening s = go (eqb s c) (isOpening named opening) (hasRoom c p) (eqb (countOf p) 0)
     where
-      go : (a b d : Bool) → GrowthOutcome p (unless a 3 p (unless b 2 p (pick d (grows p (withFirst p)) (grows p (withRoot p (rootIn p 0))))))
-      go false b d = not-grown 3
-      go true false d = not-grown 2
-      go true true true = one-more (node-count p none 0)
-      go true true false = one-more (root-count p (rootIn p 0))
+      go : (a b d e : Bool)
+          → GrowthOutcome p (unless a 3 p (unless b 5 p (unless d 2 p (pick e (grows p (withFirst p)) (grows p (withRoot p (rootIn p 0) named opening))))))
+      go false b d e = not-grown 3
+      go true false d e = not-grown 5
+      go true true false e = not-grown 2
+      go true true true true = one-more (node-count p none 0)
+      go true true true false = one-more (root-count p (rootIn p 0) named opening)
 
 -- a reply that names no new node
 data Plain : PlainReply → Type 0 where
@@ -142,7 +144,7 @@ module _ {f : Fast} {p : PlainList} {stored : StoredList} {total joined : ℕ} (
   told-step : {q : Call} → Logged q → Told f q (plainOutcome rows p (told q)) (step f q)
   unfolding step
   told-step (a-leaf {v = v} {l = l} {s = k}) = told-growth a-leaf (leaf-outcome rows p v l (length k)) (step-exact s (leaf v l k))
-  told-step (a-root {s = k}) = told-growth a-root (root-outcome rows p (length k)) (step-exact s (root k))
+  told-step (a-root {named = b} {opening = l} {s = k}) = told-growth a-root (root-outcome rows p b l (length k)) (step-exact s (root b l k))
   told-step (a-question {x} {y}) = told-asked (question-plain rows p x y) refl (step-exact s (question x y))
   told-step (an-alike {x} {y}) = told-asked (alike-plain rows p x y) refl (step-exact s (alike x y))
 

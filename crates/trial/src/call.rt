@@ -6,6 +6,8 @@ use crate::shape::is_link;
 use crate::shape::kind_of;
 use crate::shape::label;
 use crate::shape::named;
+use crate::shape::names_opening;
+use crate::shape::opening;
 use crate::shape::parent;
 use crate::tree::Tree;
 use crate::tree::full_refusal;
@@ -13,6 +15,7 @@ use crate::tree::leaf_refusal;
 use crate::tree::link_refusal;
 use crate::tree::over_refusal;
 use crate::tree::root_in;
+use crate::tree::root_refusal;
 use crate::tree::with_first;
 use crate::tree::with_leaf;
 use crate::tree::with_link;
@@ -21,10 +24,10 @@ use crate::tree::with_root;
 
 pub enum Call {
     First,
-    // Over the root of node 0's tree, or the first node.
-    Root,
+    // Over the root of node 0's tree, or the first node; whether it names an opening, and the opening.
+    Root { named: bool, opening: u16 },
     // A new root over x.
-    Over { x: u16 },
+    Over { x: u16, named: bool, opening: u16 },
     // A leaf of a label under x.
     Leaf { x: u16, label: u16 },
     // The tree of root x under v.
@@ -35,9 +38,14 @@ fn growth_of(tree: Tree, shape: u16, turn: u16, first: u64, second: u64, third: 
     let x = parent(shape, tree.count, first, second);
     match kind_of(shape, turn, first) {
         Kind::First => Call::First,
-        Kind::Root => Call::Root,
+        Kind::Root => Call::Root {
+            named: names_opening(second),
+            opening: opening(third),
+        },
         Kind::Over => Call::Over {
             x: named(root_in(tree, x), x, third),
+            named: names_opening(second),
+            opening: opening(third),
         },
         Kind::Leaf => Call::Leaf {
             x: x,
@@ -75,8 +83,8 @@ pub fn call_of(tree: Tree, shape: u16, turn: u16, seed: u64) -> Call {
 pub fn refusal_of(tree: Tree, call: Call) -> u16 {
     match call {
         Call::First => full_refusal(tree),
-        Call::Root => full_refusal(tree),
-        Call::Over { x } => over_refusal(tree, x),
+        Call::Root { named, opening } => root_refusal(tree, named, opening),
+        Call::Over { x, named, opening } => over_refusal(tree, x, named, opening),
         Call::Leaf { x, label } => leaf_refusal(tree, x, label),
         Call::Link { x, v, label } => link_refusal(tree, x, v, label),
     }
@@ -86,8 +94,8 @@ pub fn refusal_of(tree: Tree, call: Call) -> u16 {
 pub fn after(tree: Tree, call: Call) -> Tree {
     match call {
         Call::First => with_first(tree),
-        Call::Root => with_root(tree),
-        Call::Over { x } => with_over(tree, x),
+        Call::Root { named, opening } => with_root(tree, named, opening),
+        Call::Over { x, named, opening } => with_over(tree, x, named, opening),
         Call::Leaf { x, label } => with_leaf(tree, x, label),
         Call::Link { x, v, label } => with_link(tree, x, v, label),
     }
@@ -97,8 +105,15 @@ pub fn after(tree: Tree, call: Call) -> Tree {
 pub fn letter_of(call: Call) -> u8 {
     match call {
         Call::First => b'F',
-        Call::Root => b'T',
-        Call::Over { x: _ } => b'O',
+        Call::Root {
+            named: _,
+            opening: _,
+        } => b'T',
+        Call::Over {
+            x: _,
+            named: _,
+            opening: _,
+        } => b'O',
         Call::Leaf { x: _, label: _ } => b'L',
         Call::Link {
             x: _,
@@ -111,16 +126,26 @@ pub fn letter_of(call: Call) -> u8 {
 // The first node that a call names, or 0.
 pub fn first_named(call: Call) -> u16 {
     match call {
-        Call::Over { x } => x,
+        Call::Over {
+            x,
+            named: _,
+            opening: _,
+        } => x,
         Call::Leaf { x, label: _ } => x,
         Call::Link { x, v: _, label: _ } => x,
         _ => 0,
     }
 }
 
-// The node that a tree is linked under, or a leaf's label, or 0.
+// The node that a tree is linked under, or a leaf's label, or an opening, or 0.
 pub fn second_named(call: Call) -> u16 {
     match call {
+        Call::Root { named: _, opening } => opening,
+        Call::Over {
+            x: _,
+            named: _,
+            opening,
+        } => opening,
         Call::Leaf { x: _, label } => label,
         Call::Link { x: _, v, label: _ } => v,
         _ => 0,

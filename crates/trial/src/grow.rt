@@ -186,7 +186,7 @@ fn make(
             scratch,
             state,
         )),
-        Call::Root => of_growth(add_root(
+        Call::Root { named, opening } => of_growth(add_root(
             fields,
             numbers,
             levels,
@@ -194,8 +194,10 @@ fn make(
             tally,
             scratch,
             state,
+            named,
+            opening,
         )),
-        Call::Over { x } => of_growth(add_root_over(
+        Call::Over { x, named, opening } => of_growth(add_root_over(
             fields,
             numbers,
             levels,
@@ -204,6 +206,8 @@ fn make(
             scratch,
             state,
             x,
+            named,
+            opening,
         )),
         Call::Leaf { x, label } => of_growth(add_leaf(
             fields,

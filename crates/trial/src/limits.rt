@@ -67,7 +67,7 @@ fn set_up_none() -> u16 {
     ))
 }
 
-// A new root on an empty table of two rows, with this scratch.
+// A new root through an opening on an empty table of two rows, with this scratch.
 fn root_on(scratch: &[u16]) -> u16 {
     let mut fields = [7u16; 24];
     let mut numbers = [7u64; 4];
@@ -91,6 +91,8 @@ fn root_on(scratch: &[u16]) -> u16 {
                 &mut tally,
                 scratch,
                 state,
+                true,
+                9999,
             ))
         }
     }

@@ -100,3 +100,18 @@ pub fn is_link(shape: u16, turn: u16, seed: u64) -> bool {
 pub fn named(root: u16, node: u16, seed: u64) -> u16 {
     if below(seed, 5) == 0 { node } else { root }
 }
+
+// Whether a new root names an opening.
+pub fn names_opening(seed: u64) -> bool {
+    below(seed, 3) != 0
+}
+
+// The opening of a new root: now and then no label.
+pub fn opening(seed: u64) -> u16 {
+    match below(seed, 8) {
+        0 => 0,
+        1 => 10000,
+        2 => 9999,
+        _ => one_or_two(seed),
+    }
+}

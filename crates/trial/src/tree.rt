@@ -87,10 +87,26 @@ pub fn root_in(t: Tree, x: u16) -> u16 {
     root_of(&parents, x)
 }
 
+// An opening is looked at where it is named.
+fn is_opening(named: bool, opening: u16) -> bool {
+    !named || is_label(opening)
+}
+
+// The refusal of 01's new root, or 0.
+pub fn root_refusal(t: Tree, named: bool, opening: u16) -> u16 {
+    if !is_opening(named, opening) {
+        return 5;
+    }
+    full_refusal(t)
+}
+
 // The refusal of a new root over x, or 0.
-pub fn over_refusal(t: Tree, x: u16) -> u16 {
+pub fn over_refusal(t: Tree, x: u16, named: bool, opening: u16) -> u16 {
     if t.count <= x {
         return 1;
+    }
+    if !is_opening(named, opening) {
+        return 5;
     }
     if parent_of(t, x) != NONE {
         return 10;
@@ -131,19 +147,22 @@ pub fn with_leaf(t: Tree, parent: u16, label: u16) -> Tree {
     with_count(b)
 }
 
-// A new root over x that is not refused: the parent of x.
-pub fn with_over(t: Tree, x: u16) -> Tree {
+// A new root over x that is not refused: the parent of x, which takes the opening, where one is named.
+pub fn with_over(t: Tree, x: u16, named: bool, opening: u16) -> Tree {
     let node = t.count;
-    let a = with_parent(t, x, node);
-    with_count(a)
+    let a = with_count(with_parent(t, x, node));
+    if named {
+        return with_label(a, x, opening);
+    }
+    a
 }
 
 // 01's new root, not refused: over that of node 0, or the first node.
-pub fn with_root(t: Tree) -> Tree {
+pub fn with_root(t: Tree, named: bool, opening: u16) -> Tree {
     if t.count == 0 {
         return with_first(t);
     }
-    with_over(t, root_in(t, 0))
+    with_over(t, root_in(t, 0), named, opening)
 }
 
 // How many nodes the tree of a root has.

@@ -15,7 +15,7 @@ pub data Asked : Type 0 where
 abbrev pub askedBy : List ℕ → ℕ → List ℕ → Asked
 askedBy scratch tag v =
     pick (eqb tag 1) (call (leaf (getD v 0 0) (getD v 1 0) scratch))
-    (pick (eqb tag 2) (call (root scratch))
+    (pick (eqb tag 2) (call (root (eqb (getD v 0 0) 1) (getD v 1 0) scratch))
     (pick (eqb tag 3) (call (question (getD v 0 0) (getD v 1 0)))
     (pick (eqb tag 4) (call (alike (getD v 0 0) (getD v 1 0)))
     nothing)))

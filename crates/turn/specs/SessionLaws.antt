@@ -1,6 +1,6 @@
 -- Lines as the code writes them are those of the session.
-use mathlib.Core.Path.{_≡_, sym, ap, _∙_}
-use mathlib.Core.Bool.{true, not}
+use mathlib.Core.Path.{_≡_, refl, sym, ap, _∙_}
+use mathlib.Core.Bool.{Bool, true, not}
 use mathlib.Core.List.{List}
 use Prim.Native.Nat.{ℕ, _+_, _-_, _≤_}
 use lib.Dec.{eqb}
@@ -11,13 +11,16 @@ use Rattle.lines.specs.declared.Text.{Text}
 use Rattle.lines.specs.Text.{textOf}
 use Rattle.lines.specs.Line.{lineOf}
 use Rattle.log.specs.declared.Field.{Field}
+use Rattle.log.specs.declared.Field.the-variants.{Root}
 use Rattle.log.specs.Outcome.{outcomeOf}
+use Rattle.log.specs.OutcomeLaws.{named-told}
 use Rattle.log.specs.Field.{fieldAt}
 use Rattle.table.specs.Parts.{Parts}
+use Rattle.sequence.specs.Calls.{root}
 use Rattle.report.specs.declared.reply.Shown.{Shown}
 use Rattle.report.specs.declared.serve.Served.{Served}
 use Rattle.report.specs.Printed.{printedOf, printedRefusal, printedLine}
-use Rattle.report.specs.Report.{Report, reportOf}
+use Rattle.report.specs.Report.{Report, report, reportOf}
 use Rattle.turn.specs.declared.Reading.{Reading}
 use Rattle.turn.specs.Bounds.{Holds}
 use Rattle.turn.specs.Session.{Session, Step, reported, refusedField, stepBy, stepOf, sessionOf, written, turnOf}
@@ -56,3 +59,8 @@ module _ (log scratch : List ℕ) (s : Session) (f : Field) (read : outcomeOf f 
       → reported (s .ordinal) (s .total) next due ≡ stepBy scratch s (outcomeOf g)
       → turn ≡ reported (s .ordinal) (s .total) next given → given ≡ due → turn ≡ stepOf log scratch s
   served-from g {next} e same told served = told ∙ ap (reported (s .ordinal) (s .total) next) served ∙ same ∙ step-from g e
+
+  -- the step of a root's field: whether it names an opening is told as 1 or 0
+  pub root-from : (named : Bool) (opening : ℕ) {next : ℕ} {given : Report} {turn : Step} → f ≡ Root named opening next
+      → turn ≡ reported (s .ordinal) (s .total) next given → given ≡ report (s .fast) (root named opening scratch) → turn ≡ stepOf log scratch s
+  root-from named opening {next} e told served = served-from (Root named opening next) e (rw (named-told named) refl) told served

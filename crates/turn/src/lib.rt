@@ -138,8 +138,22 @@ pub fn take_turn(
             );
             served_turn(reading, served, next)
         }
-        Field::Root(next) => {
-            let served = serve_root(fields, numbers, levels, ancestors, tally, scratch, state);
+        Field::Root {
+            named,
+            opening,
+            next,
+        } => {
+            let served = serve_root(
+                fields,
+                numbers,
+                levels,
+                ancestors,
+                tally,
+                scratch,
+                state,
+                named,
+                opening,
+            );
             served_turn(reading, served, next)
         }
         Field::Question { x, y, next } => {

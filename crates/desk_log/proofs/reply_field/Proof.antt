@@ -28,26 +28,29 @@ enum-known-field c = search needs
 put-field-requires-2 : tie.Need-put-field-requires-2
 put-field-requires-2 c κs = search needs
 
-enum-told-6 : tie.Need-enum-told-6
-enum-told-6 c = search needs
+enum-known-field-2 : tie.Need-enum-known-field-2
+enum-known-field-2 c = search needs
+
+cast-put-field : tie.Need-cast-put-field
+cast-put-field c = search needs
 
 put-field-requires-3 : tie.Need-put-field-requires-3
 put-field-requires-3 c κs = search needs
 
-enum-known-field-2 : tie.Need-enum-known-field-2
-enum-known-field-2 c = search needs
+enum-known-field-3 : tie.Need-enum-known-field-3
+enum-known-field-3 c = search needs
 
 put-field-requires-4 : tie.Need-put-field-requires-4
 put-field-requires-4 c κs = search needs
 
-enum-known-field-3 : tie.Need-enum-known-field-3
-enum-known-field-3 c = search needs
+enum-known-field-4 : tie.Need-enum-known-field-4
+enum-known-field-4 c = search needs
 
 put-field-requires-5 : tie.Need-put-field-requires-5
 put-field-requires-5 c κs = search needs
 
-enum-told-7 : tie.Need-enum-told-7
-enum-told-7 c = search needs
+enum-told-6 : tie.Need-enum-told-6
+enum-told-6 c = search needs
 
 put-field-requires-6 : tie.Need-put-field-requires-6
 put-field-requires-6 c κs = search needs
@@ -80,25 +83,25 @@ same-length-3 : tie.Need-same-length-3
 same-length-3 c = search needs
 
 returns-7 : tie.Need-returns-7
-returns-7 c = rw (c .before .before .before .before .enum-told6 .given .1) (c .before .before .put-field3 .ensures)
+returns-7 c = rw (c .before .before .before .before .before .field2 .given .1) (c .before .before .put-field3 .ensures)
 
 same-length-4 : tie.Need-same-length-4
 same-length-4 c = search needs
 
 returns-8 : tie.Need-returns-8
-returns-8 c = rw (c .before .before .before .before .before .field2 .given .1) (c .before .before .put-field4 .ensures)
+returns-8 c = rw (c .before .before .before .before .before .field3 .given .1) (c .before .before .put-field4 .ensures)
 
 same-length-5 : tie.Need-same-length-5
 same-length-5 c = search needs
 
 returns-9 : tie.Need-returns-9
-returns-9 c = rw (c .before .before .before .before .before .field3 .given .1) (c .before .before .put-field5 .ensures)
+returns-9 c = rw (c .before .before .before .before .before .field4 .given .1) (c .before .before .put-field5 .ensures)
 
 same-length-6 : tie.Need-same-length-6
 same-length-6 c = search needs
 
 returns-10 : tie.Need-returns-10
-returns-10 c = rw (c .before .before .before .before .enum-told7 .given .1) (c .before .before .put-field6 .ensures)
+returns-10 c = rw (c .before .before .before .before .enum-told6 .given .1) (c .before .before .put-field6 .ensures)
 
 pub reply-field-spec : {M : Type 1} → statement M
 reply-field-spec =
@@ -112,13 +115,14 @@ reply-field-spec =
     put-field-requires
     enum-known-field
     put-field-requires-2
-    enum-told-6
-    put-field-requires-3
     enum-known-field-2
-    put-field-requires-4
+    cast-put-field
+    put-field-requires-3
     enum-known-field-3
+    put-field-requires-4
+    enum-known-field-4
     put-field-requires-5
-    enum-told-7
+    enum-told-6
     put-field-requires-6
     returns
     returns-2

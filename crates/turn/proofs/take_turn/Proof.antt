@@ -3,7 +3,7 @@ use mathlib.Core.Path.{refl, _∙_}
 use native.Mathlib.Omega.{arith}
 use Rattle.table.specs.Parts.{partsOf}
 use Rattle.turn.specs.Session.{sessionOf}
-use Rattle.turn.specs.SessionLaws.{step-from, served-from}
+use Rattle.turn.specs.SessionLaws.{step-from, served-from, root-from}
 use borrow.Author.Needs.{needs}
 use Rattle.turn.proofs.take_turn.Statement.{statement}
 use Rattle.turn.proofs.take_turn.Tie as tie
@@ -149,7 +149,7 @@ same-length-10 c = search needs
 
 returns-8 : tie.Need-returns-8
 returns-8 c = let a = c .before .before .before .before .before .before .before .before .before .before .before .before .before .before .before .before .before .before .before .before .before .before .before .before .before .before .before .args in let t = (partsOf (a .fields .now) (a .numbers .now) (a .levels .now) (a .ancestors .now)) in (
-  served-from (a .log .now) (a .scratch .now) (sessionOf t (a .tally .now) (a .reading)) (c .before .before .before .before .before .before .before .before .before .before .before .before .before .before .before .before .before .before .before .read-at .result) (c .before .before .before .before .before .before .before .before .before .before .before .before .before .before .before .before .before .before .before .read-at .ensures) _ (c .before .before .before .before .before .before .before .before .before .before .before .before .before .before .before .before .before .found7 .given .1) refl
+  root-from (a .log .now) (a .scratch .now) (sessionOf t (a .tally .now) (a .reading)) (c .before .before .before .before .before .before .before .before .before .before .before .before .before .before .before .before .before .before .before .read-at .result) (c .before .before .before .before .before .before .before .before .before .before .before .before .before .before .before .before .before .before .before .read-at .ensures) _ _ (c .before .before .before .before .before .before .before .before .before .before .before .before .before .before .before .before .before .found7 .given .1)
       (c .served-turn2 .ensures .0 _ _) (c .before .before .before .before .before .before .before .before .before .before .serve-root .ensures),
   c .served-turn2 .ensures .1,
 )
