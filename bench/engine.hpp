@@ -24,10 +24,11 @@ public:
         return grown(out);
     }
 
+    // A leaf in front, as the baselines' are.
     uint16_t add_leaf(uint16_t parent, uint16_t label) {
         uint16_t out[4];
         served(nca_table_add_leaf(fields.data(), fields.size(), numbers.data(), numbers.size(), levels.data(), levels.size(), ancestors.data(),
-                                  ancestors.size(), tally.data(), tally.size(), scratch.data(), scratch.size(), count, parent, label, out, 4));
+                                  ancestors.size(), tally.data(), tally.size(), scratch.data(), scratch.size(), count, parent, label, 0, out, 4));
         return grown(out);
     }
 

@@ -1,4 +1,4 @@
-// Baseline (a): the engine's structure without checks: fat preorder numbers, heavy paths, 122 ancestor entries to a row, a tally of labels.
+// Baseline (a): the engine's structure without checks: fat preorder numbers, heavy paths, 122 ancestor entries to a row, a tally of labels, a face to a row.
 #pragma once
 #include "answer.hpp"
 #include "rerooted.hpp"
@@ -13,19 +13,20 @@
 template <bool TUNED> class FatPreorder {
 public:
     static constexpr const char *name = "C++";
-    static constexpr double bytes_per_row = 284;
+    static constexpr double bytes_per_row = 285;
     static constexpr int ENTRIES = 122;
 
     explicit FatPreorder(uint32_t capacity) : entries(capacity) {
         rows.reserve(capacity);
+        faces.reserve(capacity);
         for (int i = 0; i < 125; i++) powers[i] = power(i);
     }
 
-    uint16_t add_leaf(uint16_t parent, uint16_t label) { return grow(parent, label, rows[parent].level + 1); }
+    uint16_t add_leaf(uint16_t parent, uint16_t label, uint8_t face = 0) { return grow(parent, label, face, rows[parent].level + 1); }
 
     uint16_t add_root() {
         uint16_t x = uint16_t(rows.size());
-        uint16_t given = x == 0 ? grow(NONE, 0, 0) : grow(root, 0, rows[root].level - 1);
+        uint16_t given = x == 0 ? grow(NONE, 0, 0, 0) : grow(root, 0, 0, rows[root].level - 1);
         root = x;
         return given;
     }
@@ -120,9 +121,10 @@ private:
         return {f.nca, f.to_x, f.to_y, rows[x].level - level, rows[y].level - level, rows[f.nca].label};
     }
 
-    uint16_t grow(uint16_t parent, uint16_t label, int32_t level) {
+    uint16_t grow(uint16_t parent, uint16_t label, uint8_t face, int32_t level) {
         uint16_t x = uint16_t(rows.size());
         rows.push_back({parent, NONE, NONE, NONE, NONE, NONE, 1, 0, 0, label, level, 0, 0});
+        faces.push_back(face);
         tally.count(label);
         if (parent != NONE) {
             Row &above = rows[parent];
@@ -226,8 +228,9 @@ private:
         for (uint32_t v = 0; v < n; v++) {
             if (rows[v].last != last[v] || (last[v] == NONE ? rows[v].first != NONE : rows[last[v]].next != NONE)) return false;
             if (line[v] ? rows[v].label != 0 : rows[v].label < 1 || rows[v].label > 9999) return false;
+            if (faces[v] > 1) return false;
         }
-        return true;
+        return faces[root] == 0;
     }
 
     bool paths_hold(uint32_t n) {
@@ -294,6 +297,7 @@ private:
     }
 
     std::vector<Row> rows;
+    std::vector<uint8_t> faces;
     std::vector<std::array<uint16_t, ENTRIES>> entries;
     std::array<uint64_t, 125> powers{};
     std::vector<uint16_t> order, size, apexes;

@@ -35,10 +35,10 @@ inline Log quiet_log(size_t bytes) {
 // All fields of a log, mixed to one number.
 template <class R> uint64_t read_all(const Log &log) {
     uint64_t sum = 0;
-    uint16_t out[3];
+    uint16_t out[4];
     for (size_t at = 0, next;; at = next) {
         uint16_t refusal = R::field(log.data(), log.size(), at, out);
-        sum = sum * 31 + (refusal == 0 ? 1 + out[0] + 7 * out[1] + 11 * out[2] : 5 * refusal);
+        sum = sum * 31 + (refusal == 0 ? 1 + out[0] + 7 * out[1] + 11 * out[2] + 13 * out[3] : 5 * refusal);
         next = R::next(log.data(), log.size(), at);
         if (next == at) return sum;
     }

@@ -1,11 +1,11 @@
 // The engine's log reader, over its C interface, and the same reader in C++, without a proof, with four tests for a byte of filler that is not zero.
-// Both say what stands at a place of a log: 0 and the tag and values of a field, or a refusal from 6 to 9.
+// Both say what stands at a place of a log: 0 and the kind and values of a field, or a refusal from 6 to 9.
 #pragma once
 #include "../include/vundreli.h"
 #include <cstring>
 
 struct EngineReader {
-    static uint16_t field(const uint8_t *log, size_t length, size_t at, uint16_t out[3]) { return nca_log_field(log, length, at, out, 3); }
+    static uint16_t field(const uint8_t *log, size_t length, size_t at, uint16_t out[4]) { return nca_log_field(log, length, at, out, 4); }
     static size_t next(const uint8_t *log, size_t length, size_t at) { return nca_log_next(log, length, at); }
 };
 
@@ -53,8 +53,8 @@ struct ByLibrary {
 
 // Its functions are calls, as the engine's are.
 template <class Zeros> struct Reader {
-    [[gnu::noinline]] static uint16_t field(const uint8_t *log, size_t length, size_t at, uint16_t out[3]) {
-        out[0] = out[1] = out[2] = 0;
+    [[gnu::noinline]] static uint16_t field(const uint8_t *log, size_t length, size_t at, uint16_t out[4]) {
+        out[0] = out[1] = out[2] = out[3] = 0;
         if (at >= length) return 0;
         const uint8_t *body = log + at + 3;
         size_t left = length - at;
@@ -76,6 +76,13 @@ template <class Zeros> struct Reader {
             if (n != 4) return 7;
             out[1] = number_at(body);
             out[2] = number_at(body + 2);
+            return 0;
+        case 5:
+            if (n != 5) return 7;
+            out[0] = 1;
+            out[1] = number_at(body);
+            out[2] = number_at(body + 2);
+            out[3] = body[4];
             return 0;
         default:
             return 6;

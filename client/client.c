@@ -34,6 +34,23 @@ static const uint8_t OPENINGS[] = {
     3, 0, 4, 0, 3, 0, 4,
 };
 
+/* Leaves of both faces, with tags 1 and 5, a face of 2, which is refused, and a new root through an opening, which is in front. */
+static const uint8_t FACES[] = {
+    2, 0, 0,
+    1, 0, 4, 0, 0, 0, 7,
+    5, 0, 5, 0, 0, 0, 7, 1,
+    5, 0, 5, 0, 0, 0, 7, 0,
+    5, 0, 5, 0, 0, 0, 7, 2,
+    4, 0, 4, 0, 1, 0, 2,
+    4, 0, 4, 0, 1, 0, 3,
+    2, 0, 2, 0, 12,
+    5, 0, 5, 0, 4, 0, 12, 1,
+    1, 0, 4, 0, 4, 0, 12,
+    4, 0, 4, 0, 0, 0, 5,
+    4, 0, 4, 0, 0, 0, 6,
+    3, 0, 4, 0, 1, 0, 5,
+};
+
 static int failures = 0;
 
 static void expect(int holds, const char *what) {
@@ -94,9 +111,10 @@ static unsigned table_add_first(struct growth *g) {
     return table_grown(nca_table_add_first(PARTS, COUNTS, scratch, CAPACITY, table.count, out, 4), out, g);
 }
 
-static unsigned table_add_leaf(unsigned parent, unsigned label, struct growth *g) {
+static unsigned table_add_leaf(unsigned parent, unsigned label, unsigned face, struct growth *g) {
     uint16_t out[4];
-    return table_grown(nca_table_add_leaf(PARTS, COUNTS, scratch, CAPACITY, table.count, (uint16_t)parent, (uint16_t)label, out, 4), out, g);
+    return table_grown(
+        nca_table_add_leaf(PARTS, COUNTS, scratch, CAPACITY, table.count, (uint16_t)parent, (uint16_t)label, (uint16_t)face, out, 4), out, g);
 }
 
 static unsigned table_add_root_over(unsigned x, unsigned named, unsigned opening, struct growth *g) {
@@ -131,6 +149,8 @@ static unsigned table_query(unsigned x, unsigned y, struct answer *a) {
     return refusal;
 }
 
+static unsigned table_alike(unsigned x, unsigned y, uint16_t *yes) { return nca_table_alike(PARTS, table.count, (uint16_t)x, (uint16_t)y, yes, 1); }
+
 /* ---- byte trees */
 
 static uint8_t tree[NCA_TREE_BYTES];
@@ -155,9 +175,9 @@ static void tree_grown(const uint8_t out[6], struct growth *g) {
     g->level = (int)signed_at(tree + LEVELS + 4 * g->node);
 }
 
-static unsigned tree_add_leaf(unsigned parent, unsigned label, struct growth *g) {
+static unsigned tree_add_leaf(unsigned parent, unsigned label, unsigned face, struct growth *g) {
     uint8_t out[6];
-    unsigned refusal = nca_add_leaf(tree, NCA_TREE_BYTES, (uint16_t)parent, (uint16_t)label, out, 6);
+    unsigned refusal = nca_add_leaf(tree, NCA_TREE_BYTES, (uint16_t)parent, (uint16_t)label, (uint16_t)face, out, 6);
     if (refusal == 0)
         tree_grown(out, g);
     return refusal;
@@ -193,26 +213,49 @@ static unsigned table_tally(unsigned i) { return table.tally[i]; }
 
 static unsigned tree_tally(unsigned i) { return little_endian(tree + TALLY + 2 * i); }
 
+/* The place of a face among the fields of a row. */
+enum { FACE = 11 };
+
+static unsigned table_face(unsigned x) { return table.fields[12 * x + FACE]; }
+
+static unsigned tree_face(unsigned x) { return little_endian(tree + FIELDS + 2 * (12 * x + FACE)); }
+
 struct form {
     unsigned (*set_up)(void);
-    unsigned (*add_leaf)(unsigned parent, unsigned label, struct growth *g);
+    unsigned (*add_leaf)(unsigned parent, unsigned label, unsigned face, struct growth *g);
     unsigned (*add_root)(unsigned named, unsigned opening, struct growth *g);
     unsigned (*query)(unsigned x, unsigned y, struct answer *a);
+    unsigned (*alike)(unsigned x, unsigned y, uint16_t *yes); /* byte trees have no such call */
     unsigned (*tally)(unsigned i);
+    unsigned (*face)(unsigned x);
 };
 
-static const struct form TABLE = {table_set_up, table_add_leaf, table_add_root, table_query, table_tally};
-static const struct form TREE = {tree_set_up, tree_add_leaf, tree_add_root, tree_query, tree_tally};
+static const struct form TABLE = {table_set_up, table_add_leaf, table_add_root, table_query, table_alike, table_tally, table_face};
+static const struct form TREE = {tree_set_up, tree_add_leaf, tree_add_root, tree_query, NULL, tree_tally, tree_face};
 
-/* One field, its tag and two values; the rows that it renumbered. */
-static unsigned play_field(const struct form *f, unsigned ordinal, const uint16_t field[3]) {
+/* A form without alike prints nothing for it. */
+static void play_alike(const struct form *f, unsigned ordinal, unsigned x, unsigned y) {
+    uint16_t yes = 9;
+    unsigned refusal;
+    if (f->alike == NULL)
+        return;
+    refusal = f->alike(x, y, &yes);
+    printf("%u %c %u\n", ordinal, refusal != 0 ? 'R' : 'A', refusal != 0 ? refusal : yes);
+}
+
+/* One field, its kind and three values; the rows that it renumbered. */
+static unsigned play_field(const struct form *f, unsigned ordinal, const uint16_t field[4]) {
     unsigned refusal;
     struct growth g = {0, 0, 0, 0};
     struct answer a = {{0}};
+    if (field[0] == NCA_ALIKE) {
+        play_alike(f, ordinal, field[1], field[2]);
+        return 0;
+    }
     if (field[0] == NCA_QUESTION)
         refusal = f->query(field[1], field[2], &a);
     else if (field[0] == NCA_LEAF)
-        refusal = f->add_leaf(field[1], field[2], &g);
+        refusal = f->add_leaf(field[1], field[2], field[3], &g);
     else
         refusal = f->add_root(field[1], field[2], &g);
     if (refusal != 0)
@@ -226,42 +269,57 @@ static unsigned play_field(const struct form *f, unsigned ordinal, const uint16_
 
 static void play(const struct form *f, const uint8_t *log, size_t log_len, unsigned (*count)(void)) {
     unsigned ordinal = 0, total = 0;
-    uint16_t field[3];
+    uint16_t field[4];
     expect(f->set_up() == 0, "set-up is served");
     printf("echo %d\n", CAPACITY);
-    for (size_t at = 0; nca_log_field(log, log_len, at, field, 3) == 0 && field[0] != NCA_END; at = nca_log_next(log, log_len, at))
+    for (size_t at = 0; nca_log_field(log, log_len, at, field, 4) == 0 && field[0] != NCA_END; at = nca_log_next(log, log_len, at))
         total += play_field(f, ++ordinal, field);
     printf("end %u %u\n", count(), total);
     printf("most %u %u\n", f->tally(MOST), f->tally(f->tally(MOST)));
+    printf("faces");
+    for (unsigned x = 0; x < count(); x++)
+        printf(" %u", f->face(x));
+    printf("\n");
+}
+
+/* Whether the field at a place of a log is read, with this kind and these values. */
+static int reads(const uint8_t *log, size_t log_len, size_t at, unsigned kind, unsigned first, unsigned second, unsigned third) {
+    uint16_t field[4] = {9, 9, 9, 9};
+    return nca_log_field(log, log_len, at, field, 4) == 0 && field[0] == kind && field[1] == first && field[2] == second && field[3] == third;
 }
 
 /* A log with fields that are refused: the reader goes on past each, but stays at one that is cut short. */
 static void log_calls(void) {
     static const uint8_t log[] = {
-        5, 0, 1, 0,
+        6, 0, 1, 0,
         2, 0, 1, 0,
         2, 0, 3, 0, 7, 0,
+        5, 0, 4, 0, 0, 0, 7,
         9, 0, 9, 0, 0, 0, 0, 0, 0, 0, 0, 1,
         9, 0, 9, 0, 0, 0, 0, 0, 0, 0, 0, 0,
         4, 0, 4, 0, 1, 1, 0,
         1, 0, 4, 0,
     };
-    static const uint16_t refusals[] = {NCA_BAD_TAG, NCA_BAD_LENGTH, NCA_BAD_LENGTH, NCA_DIRTY_FILLER, 0, 0, NCA_CUT_SHORT};
+    static const uint16_t refusals[] = {NCA_BAD_TAG, NCA_BAD_LENGTH, NCA_BAD_LENGTH, NCA_BAD_LENGTH, NCA_DIRTY_FILLER, 0, 0, NCA_CUT_SHORT};
     static const uint8_t roots[] = {2, 0, 0, 2, 0, 2, 39, 16};
-    uint16_t field[3] = {0, 0, 0};
+    static const uint8_t leaves[] = {1, 0, 4, 1, 2, 3, 4, 5, 0, 5, 1, 2, 3, 4, 255};
+    uint16_t field[5] = {0, 0, 0, 0, 0};
     size_t at = 0;
     for (size_t i = 0; i < sizeof refusals / sizeof *refusals; i++) {
-        expect(nca_log_field(log, sizeof log, at, field, 3) == refusals[i], "a field is read or refused");
+        expect(nca_log_field(log, sizeof log, at, field, 4) == refusals[i], "a field is read or refused");
         if (i + 1 < sizeof refusals / sizeof *refusals)
             at = nca_log_next(log, sizeof log, at);
     }
-    expect(field[0] == NCA_ALIKE && field[1] == 1 && field[2] == 256, "a refusal leaves the out slice as it was");
+    expect(field[0] == NCA_ALIKE && field[1] == 1 && field[2] == 256 && field[3] == 0, "a refusal leaves the out slice as it was");
     expect(nca_log_next(log, sizeof log, at) == at, "the reader stays where a field is cut short");
-    expect(nca_log_field(log, sizeof log, 0, field, 2) == NCA_MISFIT, "an out slice of two places is a misfit");
-    expect(nca_log_field(log, sizeof log, sizeof log, field, 3) == 0 && field[0] == NCA_END, "past the last byte is the end");
-    expect(nca_log_field(roots, sizeof roots, 0, field, 3) == 0 && field[0] == NCA_ROOT && field[1] == 0 && field[2] == 0, "a new root may name no opening");
-    expect(nca_log_field(roots, sizeof roots, 3, field, 3) == 0 && field[0] == NCA_ROOT && field[1] == 1 && field[2] == 10000, "the reader tells any opening");
-    expect(nca_log_field(roots, sizeof roots - 1, 3, field, 3) == NCA_CUT_SHORT, "an opening that is cut short is refused");
+    expect(nca_log_field(log, sizeof log, 0, field, 3) == NCA_MISFIT && nca_log_field(log, sizeof log, 0, field, 5) == NCA_MISFIT, "an out slice of three or five places is a misfit");
+    expect(reads(log, sizeof log, sizeof log, NCA_END, 0, 0, 0), "past the last byte is the end");
+    expect(reads(roots, sizeof roots, 0, NCA_ROOT, 0, 0, 0), "a new root may name no opening");
+    expect(reads(roots, sizeof roots, 3, NCA_ROOT, 1, 10000, 0), "the reader tells any opening");
+    expect(nca_log_field(roots, sizeof roots - 1, 3, field, 4) == NCA_CUT_SHORT, "an opening that is cut short is refused");
+    expect(reads(leaves, sizeof leaves, 0, NCA_LEAF, 258, 772, 0), "a leaf of tag 1 is in front");
+    expect(reads(leaves, sizeof leaves, 7, NCA_LEAF, 258, 772, 255), "one of tag 5 has any face");
+    expect(nca_log_field(leaves, sizeof leaves - 1, 7, field, 4) == NCA_CUT_SHORT, "a face that is cut short is refused");
 }
 
 /* A path of as many nodes as there is room for, and one more. */
@@ -271,16 +329,19 @@ static void fill(const struct form *f) {
     unsigned served = 0;
     expect(f->set_up() == 0, "set-up is served");
     expect(f->add_root(0, 0, &g) == 0, "the first node is served");
-    while (served < CAPACITY - 1 && f->add_leaf(served, 1 + served, &g) == 0)
+    while (served < CAPACITY - 1 && f->add_leaf(served, 1 + served, served % 2, &g) == 0)
         expect(g.node == ++served, "a leaf has the next number");
     expect(served == CAPACITY - 1, "128 nodes are served");
-    expect(f->add_leaf(0, 1, &g) == NCA_FULL, "the 129th node is refused");
+    expect(f->add_leaf(0, 1, 1, &g) == NCA_FULL, "the 129th node is refused");
+    expect(f->add_leaf(0, 1, 2, &g) == NCA_BAD_FACE && f->add_leaf(0, 1, 65535, &g) == NCA_BAD_FACE, "a face is looked at before that");
+    expect(f->add_leaf(0, 0, 2, &g) == NCA_BAD_LABEL, "and after the label");
     expect(f->add_root(0, 0, &g) == NCA_FULL && f->add_root(1, 7, &g) == NCA_FULL, "so is a root");
     expect(f->add_root(1, 0, &g) == NCA_BAD_LABEL && f->add_root(2, 10000, &g) == NCA_BAD_LABEL, "an opening is looked at before that");
     expect(f->add_root(0, 10000, &g) == NCA_FULL, "but not where none is named");
     expect(f->query(CAPACITY - 1, 64, &a) == 0 && a.values[0] == 64 && a.values[1] == 65 && a.values[3] == 63 && a.values[5] == 64, "a question on the full tree");
     expect(f->query(CAPACITY, 0, &a) == NCA_UNKNOWN_NODE, "an unknown node is refused");
-    expect(f->add_leaf(0, 10000, &g) == NCA_BAD_LABEL, "a label of 10,000 is refused");
+    expect(f->add_leaf(0, 10000, 0, &g) == NCA_BAD_LABEL, "a label of 10,000 is refused");
+    expect(f->face(0) == 0 && f->face(1) == 0 && f->face(2) == 1 && f->face(CAPACITY - 1) == 0, "each node has its face");
     expect(f->tally(0) == 1 && f->tally(1) == 1 && f->tally(CAPACITY - 1) == 1 && f->tally(CAPACITY) == 0, "each label is counted once");
     expect(f->tally(MOST) == 0, "of labels that are carried alike the smallest is named");
 }
@@ -298,8 +359,8 @@ static void table_calls(void) {
     expect(nca_table_add_root(PARTS, COUNTS, scratch, CAPACITY, table.count, table.root, 1, 0, out, 4) == NCA_BAD_LABEL, "an opening of 0 is refused");
     expect(nca_table_add_root(PARTS, COUNTS, scratch, CAPACITY, table.count, table.root, 2, 10000, out, 4) == NCA_BAD_LABEL, "so is one of 10,000");
     expect(out[0] == 9 && out[3] == 9 && memcmp(&before, &table, sizeof table) == 0, "a refusal changes nothing");
-    expect(nca_table_alike(PARTS, table.count, 1, 1, &yes, 1) == 0 && yes == 1, "a node is alike to itself");
-    expect(nca_table_alike(PARTS, table.count, 1, 2, &yes, 1) == 0 && yes == 0, "other labels are not alike");
+    expect(table_alike(1, 1, &yes) == 0 && yes == 1, "a node is alike to itself");
+    expect(table_alike(1, 2, &yes) == 0 && yes == 0, "other labels are not alike");
     expect(nca_table_inspect(PARTS, COUNTS, scratch, CAPACITY, table.count, &yes, 1) == 0 && yes == 1, "the table passes inspection");
     table.levels[1] += 1;
     expect(nca_table_inspect(PARTS, COUNTS, scratch, CAPACITY, table.count, &yes, 1) == 0 && yes == 0, "a false level does not pass");
@@ -307,7 +368,7 @@ static void table_calls(void) {
     table.tally[7] += 1;
     expect(nca_table_inspect(PARTS, COUNTS, scratch, CAPACITY, table.count, &yes, 1) == 0 && yes == 0, "nor does a false tally");
     table.tally[7] = CAPACITY;
-    expect(nca_table_add_leaf(PARTS, COUNTS, scratch, CAPACITY, table.count, 0, 7, out, 4) == NCA_CORRUPT, "a label that would be carried too often is refused");
+    expect(nca_table_add_leaf(PARTS, COUNTS, scratch, CAPACITY, table.count, 0, 7, 1, out, 4) == NCA_CORRUPT, "a label that would be carried too often is refused");
     table.tally[7] = 1;
 }
 
@@ -320,8 +381,8 @@ static void openings(void) {
     expect(table_add_root_over(0, 1, 0, &g) == NCA_UNKNOWN_NODE, "a root goes over a node");
     expect(table_add_first(&g) == 0 && g.node == 0, "a first node is served");
     expect(table_add_root_over(0, 1, 7, &g) == 0 && g.node == 1 && table.tally[0] == 1 && table.tally[7] == 1, "a new root through 7 is served");
-    expect(table_add_leaf(1, 7, &g) == 0 && g.node == 2, "a leaf of label 7 is served");
-    expect(nca_table_alike(PARTS, table.count, 0, 2, &yes, 1) == 0 && yes == 1, "the old root and the leaf are alike");
+    expect(table_add_leaf(1, 7, 0, &g) == 0 && g.node == 2, "a leaf of label 7 is served");
+    expect(table_alike(0, 2, &yes) == 0 && yes == 1, "the old root and the leaf are alike");
     expect(table.tally[7] == 2 && table.tally[MOST] == 7, "and are counted alike");
     expect(table_add_root_over(0, 1, 10000, &g) == NCA_BAD_LABEL, "an opening is looked at before the root");
     expect(table_add_root_over(0, 1, 5, &g) == NCA_NOT_ROOT && table_add_root_over(0, 0, 10000, &g) == NCA_NOT_ROOT, "a new root goes over a root");
@@ -337,6 +398,32 @@ static void openings(void) {
     expect(table_add_root_over(4, 0, 7, &g) == NCA_CORRUPT && table_add_root_over(4, 1, 7, &g) == 0, "label 0 is not counted where an opening is");
 }
 
+/* Nodes that differ by a face only are not alike, nor are their children. Old roots that take an opening and linked roots are in front. */
+static void faces(void) {
+    struct growth g = {0, 0, 0, 0};
+    uint16_t yes = 9;
+    uint32_t out[2];
+    expect(table_set_up() == 0 && table_add_first(&g) == 0 && table_face(0) == 0, "a first node is in front");
+    expect(table_add_leaf(0, 7, 0, &g) == 0 && table_add_leaf(0, 7, 1, &g) == 0 && table_face(1) == 0 && table_face(2) == 1, "leaves of both faces are served");
+    expect(table_add_leaf(0, 7, 2, &g) == NCA_BAD_FACE && table_add_leaf(0, 7, 256, &g) == NCA_BAD_FACE && table.count == 3, "any other is refused");
+    expect(table_add_leaf(0, 10000, 2, &g) == NCA_BAD_LABEL && table_add_leaf(3, 0, 2, &g) == NCA_UNKNOWN_NODE, "after label and parent");
+    expect(table_alike(1, 2, &yes) == 0 && yes == 0, "nodes that differ by a face are not alike");
+    expect(table_add_leaf(1, 4, 1, &g) == 0 && table_add_leaf(2, 4, 1, &g) == 0 && table_alike(3, 4, &yes) == 0 && yes == 0, "nor are children of these");
+    expect(table_add_leaf(2, 4, 1, &g) == 0 && table_alike(4, 5, &yes) == 0 && yes == 1, "children of one node are");
+    expect(table_add_root_over(0, 1, 9, &g) == 0 && table_add_leaf(6, 9, 1, &g) == 0 && table_add_leaf(6, 9, 0, &g) == 0, "a new root through 9 is served");
+    expect(table_alike(0, 7, &yes) == 0 && yes == 0 && table_alike(0, 8, &yes) == 0 && yes == 1, "its old root is in front");
+    expect(table_add_first(&g) == 0 && table_link(6, 9, 5, out) == 0 && table_add_leaf(9, 5, 0, &g) == 0 && table_alike(6, 10, &yes) == 0 && yes == 1, "so is a linked root");
+    expect(table_face(2) == 1 && table_face(4) == 1 && table_face(7) == 1, "the rows that it brings keep their faces");
+    expect(nca_table_inspect(PARTS, COUNTS, scratch, CAPACITY, table.count, &yes, 1) == 0 && yes == 1, "the table passes inspection");
+    table.fields[12 * 9 + FACE] = 1;
+    expect(nca_table_inspect(PARTS, COUNTS, scratch, CAPACITY, table.count, &yes, 1) == 0 && yes == 0, "a root of face 1 does not pass");
+    table.fields[12 * 9 + FACE] = 0;
+    table.fields[12 * 6 + FACE] = 1;
+    expect(nca_table_inspect(PARTS, COUNTS, scratch, CAPACITY, table.count, &yes, 1) == 0 && yes == 1, "one that is a root no more does");
+    table.fields[12 * 6 + FACE] = 2;
+    expect(nca_table_inspect(PARTS, COUNTS, scratch, CAPACITY, table.count, &yes, 1) == 0 && yes == 0, "but not with face 2");
+}
+
 /* Two trees in one table, and the second linked under a node of the first. */
 static void several_trees(void) {
     struct growth g = {0, 0, 0, 0};
@@ -345,10 +432,10 @@ static void several_trees(void) {
     uint32_t out[2] = {9, 9};
     expect(table_set_up() == 0, "set-up is served");
     expect(table_add_first(&g) == 0 && g.node == 0 && g.rows == 1, "a first node is served");
-    expect(table_add_leaf(0, 7, &g) == 0 && g.node == 1, "a leaf of the first tree is served");
+    expect(table_add_leaf(0, 7, 0, &g) == 0 && g.node == 1, "a leaf of the first tree is served");
     expect(table_add_first(&g) == 0 && g.node == 2 && g.rows == 1 && g.head == 2 && g.level == 0, "a second tree is begun");
     expect(table_query(1, 2, &a) == NCA_OTHER_TREE, "nodes of two trees share none");
-    expect(nca_table_alike(PARTS, table.count, 1, 2, &yes, 1) == NCA_OTHER_TREE && yes == 9, "nor are they compared");
+    expect(table_alike(1, 2, &yes) == NCA_OTHER_TREE && yes == 9, "nor are they compared");
     expect(table_add_root_over(1, 0, 0, &g) == NCA_NOT_ROOT, "a new root goes over a root");
     expect(table_add_root_over(2, 0, 0, &g) == 0 && g.node == 3 && g.level == -1, "also that of the second tree");
     expect(table_query(2, 3, &a) == 0 && a.values[0] == 3, "which then answers");
@@ -361,8 +448,8 @@ static void several_trees(void) {
     expect(table.tally[0] == 2 && table.tally[5] == 1 && table.tally[7] == 1 && table.tally[MOST] == 0, "the linked root is counted by its label");
     expect(table_add_first(&g) == 0 && g.node == 4, "a third tree is begun");
     expect(table_link(0, 4, 6, out) == 0 && out[1] == 4, "the head of a link is the first row of the receiving tree");
-    expect(table_add_leaf(4, 6, &g) == 0 && table.tally[0] == 2 && table.tally[6] == 2 && table.tally[MOST] == 0, "two labels are carried by two nodes each");
-    expect(table_add_leaf(4, 6, &g) == 0 && table.tally[6] == 3 && table.tally[MOST] == 6, "and one by the most");
+    expect(table_add_leaf(4, 6, 0, &g) == 0 && table.tally[0] == 2 && table.tally[6] == 2 && table.tally[MOST] == 0, "two labels are carried by two nodes each");
+    expect(table_add_leaf(4, 6, 0, &g) == 0 && table.tally[6] == 3 && table.tally[MOST] == 6, "and one by the most");
     expect(nca_table_inspect(PARTS, COUNTS, scratch, CAPACITY, table.count, &yes, 1) == 0 && yes == 1, "the table passes inspection");
 }
 
@@ -372,9 +459,10 @@ static void tree_calls(void) {
     memset(out, 9, sizeof out);
     memcpy(before, tree, sizeof tree);
     expect(nca_set_up(tree, NCA_TREE_BYTES - 1) == NCA_MISFIT, "a short tree is a misfit");
-    expect(nca_add_leaf(tree, NCA_TREE_BYTES - 1, 0, 1, out, 6) == NCA_MISFIT, "a short tree is a misfit of a leaf");
-    expect(nca_add_leaf(tree, NCA_TREE_BYTES, 0, 1, out, 5) == NCA_MISFIT, "a short out slice is a misfit");
-    expect(nca_add_leaf(tree, NCA_TREE_BYTES, 0, 0, out, 6) == NCA_BAD_LABEL, "a label of 0 is refused");
+    expect(nca_add_leaf(tree, NCA_TREE_BYTES - 1, 0, 1, 2, out, 6) == NCA_MISFIT, "a short tree is a misfit of a leaf");
+    expect(nca_add_leaf(tree, NCA_TREE_BYTES, 0, 1, 2, out, 5) == NCA_MISFIT, "a short out slice is a misfit");
+    expect(nca_add_leaf(tree, NCA_TREE_BYTES, 0, 0, 2, out, 6) == NCA_BAD_LABEL, "a label of 0 is refused");
+    expect(nca_add_leaf(tree, NCA_TREE_BYTES, 0, 1, 2, out, 6) == NCA_BAD_FACE, "so is a face of 2");
     expect(nca_add_root(tree, NCA_TREE_BYTES - 1, 1, 0, out, 6) == NCA_MISFIT, "a short tree is a misfit of a root");
     expect(nca_add_root(tree, NCA_TREE_BYTES, 1, 0, out, 5) == NCA_MISFIT, "a short out slice is a misfit of a root");
     expect(nca_add_root(tree, NCA_TREE_BYTES, 1, 0, out, 6) == NCA_BAD_LABEL, "an opening of 0 is refused");
@@ -385,7 +473,7 @@ static void tree_calls(void) {
     expect(nca_query(tree, NCA_TREE_BYTES, 0, 1, out, 16) == NCA_CORRUPT, "a tree that these calls did not leave is refused");
     tree[FIELDS + 2 * 10] = before[FIELDS + 2 * 10];
     tree[TALLY + 2 * 7] = CAPACITY;
-    expect(nca_add_leaf(tree, NCA_TREE_BYTES, 0, 7, out, 6) == NCA_CORRUPT, "so is a label that would be carried too often");
+    expect(nca_add_leaf(tree, NCA_TREE_BYTES, 0, 7, 1, out, 6) == NCA_CORRUPT, "so is a label that would be carried too often");
     expect(nca_add_root(tree, NCA_TREE_BYTES, 1, 7, out, 6) == NCA_CORRUPT, "and such an opening");
     tree[TALLY + 2 * 7] = before[TALLY + 2 * 7];
 }
@@ -397,13 +485,14 @@ static void compare(void) {
     unsigned seed = 1;
     expect(table_set_up() == 0 && tree_set_up() == 0, "set-up is served");
     for (unsigned n = 0; n < CAPACITY + 2; n++) {
-        unsigned parent, label, named, x, y, r, q;
+        unsigned parent, label, named, face, x, y, r, q;
         seed = seed * 1103515245u + 12345u;
         parent = seed / 65536u % (n + 1);
         label = seed / 256u % 10002u;
         named = seed / 512u % 3u;
-        r = n % 7 == 0 ? table_add_root(named, label, &g) : table_add_leaf(parent, label, &g);
-        q = n % 7 == 0 ? tree_add_root(named, label, &h) : tree_add_leaf(parent, label, &h);
+        face = seed / 8192u % 9u < 8 ? seed / 8192u % 2u : 2;
+        r = n % 7 == 0 ? table_add_root(named, label, &g) : table_add_leaf(parent, label, face, &g);
+        q = n % 7 == 0 ? tree_add_root(named, label, &h) : tree_add_leaf(parent, label, face, &h);
         expect(r == q && memcmp(&g, &h, sizeof g) == 0, "both forms grow alike");
         x = seed / 4096u % (n + 1);
         y = seed / 1024u % (n + 1);
@@ -425,12 +514,15 @@ static void compare(void) {
 }
 
 int main(void) {
+    play(&TABLE, FACES, sizeof FACES, table_count);
     play(&TABLE, OPENINGS, sizeof OPENINGS, table_count);
     play(&TABLE, OLDER, sizeof OLDER, table_count);
     table_calls();
     fill(&TABLE);
     openings();
+    faces();
     several_trees();
+    play(&TREE, FACES, sizeof FACES, tree_count);
     play(&TREE, OPENINGS, sizeof OPENINGS, tree_count);
     play(&TREE, OLDER, sizeof OLDER, tree_count);
     tree_calls();

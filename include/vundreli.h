@@ -29,7 +29,8 @@ enum nca_refusal {
     NCA_DIRTY_FILLER = 9, /* filler with a byte that is not zero */
     NCA_NOT_ROOT = 10,    /* a new root over, or a link of, a node that is not the root of its tree */
     NCA_SAME_TREE = 11,   /* a link under a node of the same tree */
-    NCA_OTHER_TREE = 12   /* a question to nodes of two trees */
+    NCA_OTHER_TREE = 12,  /* a question to nodes of two trees */
+    NCA_BAD_FACE = 13     /* a face above 1 */
 };
 
 /* The table form. A table of capacity c is lent as four slices: fields (12 c), numbers (2 c), levels (c), ancestors (122 c).
@@ -37,6 +38,8 @@ enum nca_refusal {
  * The tally (NCA_TALLY_LEN) is lent beside it to each call that makes, changes or inspects it: for each label from 0 to 9,999 how many nodes carry it, and
  * last the label that most nodes carry, the smallest of several. First nodes and new roots carry 0; an old root takes the opening that the new
  * one names. Set-up clears the tally; growths and links keep it.
+ * Each node has a face beside its label, 0 for front and 1 for back. A leaf names it; a first node, a new root, an old root that takes an opening
+ * and a linked root have 0.
  * scratch (c) is memory apart from the table; growth looks at its length only, inspection and a served link may leave anything in it.
  * The head of a growth is the row that headed the renumbering, that of a link the first row of the receiving stored tree. */
 
@@ -56,17 +59,17 @@ uint16_t nca_table_add_first(uint16_t *fields, size_t fields_len, uint64_t *numb
                              uint16_t count,
                              uint16_t *out, size_t out_len);
 
-/* A new leaf. out (4): count, the new node, rows renumbered, head. */
+/* A new leaf. out (4): count, the new node, rows renumbered, head. The refusals in their order: 3, 1, 5, 13, 2, 4. */
 uint16_t nca_table_add_leaf(uint16_t *fields, size_t fields_len, uint64_t *numbers, size_t numbers_len,
                             int32_t *levels, size_t levels_len, uint16_t *ancestors, size_t ancestors_len,
                             uint16_t *tally, size_t tally_len,
                             const uint16_t *scratch, size_t scratch_len,
-                            uint16_t count, uint16_t parent, uint16_t label,
+                            uint16_t count, uint16_t parent, uint16_t label, uint16_t face,
                             uint16_t *out, size_t out_len);
 
 /* A new root over x, the root of a tree. out (4): count, the new node, rows renumbered, head.
- * named: whether an opening is named, 0 for no, any other number for yes. Where it is, the opening becomes the label of x, and one outside 1 to 9,999 is
- * refused; where not, x keeps its label and the opening's number is not looked at. The refusals in their order: 3, 1, 5, 10, 2, 4. */
+ * named: whether an opening is named, 0 for no, any other number for yes. Where it is, the opening becomes the label of x, with face 0, and one outside
+ * 1 to 9,999 is refused; where not, x keeps its label and face and the opening's number is not looked at. The refusals in their order: 3, 1, 5, 10, 2, 4. */
 uint16_t nca_table_add_root(uint16_t *fields, size_t fields_len, uint64_t *numbers, size_t numbers_len,
                             int32_t *levels, size_t levels_len, uint16_t *ancestors, size_t ancestors_len,
                             uint16_t *tally, size_t tally_len,
@@ -74,7 +77,7 @@ uint16_t nca_table_add_root(uint16_t *fields, size_t fields_len, uint64_t *numbe
                             uint16_t count, uint16_t x, uint16_t named, uint16_t opening,
                             uint16_t *out, size_t out_len);
 
-/* The whole tree of root x under v, a node of another tree; x takes the label. out (2): rows renumbered, head. */
+/* The whole tree of root x under v, a node of another tree; x takes the label, with face 0. out (2): rows renumbered, head. */
 uint16_t nca_table_link(uint16_t *fields, size_t fields_len, uint64_t *numbers, size_t numbers_len,
                         int32_t *levels, size_t levels_len, uint16_t *ancestors, size_t ancestors_len,
                         uint16_t *tally, size_t tally_len,
@@ -88,7 +91,7 @@ uint16_t nca_table_query(const uint16_t *fields, size_t fields_len, const uint64
                          uint16_t count, uint16_t x, uint16_t y,
                          int32_t *out, size_t out_len);
 
-/* out (1): 1 where the labels from the root's child down to x and down to y, nodes of one tree, are the same, else 0. */
+/* out (1): 1 where the labels and faces from the root's child down to x and down to y, nodes of one tree, are the same, else 0. */
 uint16_t nca_table_alike(const uint16_t *fields, size_t fields_len, const uint64_t *numbers, size_t numbers_len,
                          const int32_t *levels, size_t levels_len, const uint16_t *ancestors, size_t ancestors_len,
                          uint16_t count, uint16_t x, uint16_t y,
@@ -109,8 +112,8 @@ uint16_t nca_table_inspect(const uint16_t *fields, size_t fields_len, const uint
 /* An empty tree. */
 uint16_t nca_set_up(uint8_t *tree, size_t tree_len);
 
-/* A new leaf. out (6 bytes): the new node (2), rows renumbered (2), head (2). */
-uint16_t nca_add_leaf(uint8_t *tree, size_t tree_len, uint16_t parent, uint16_t label, uint8_t *out, size_t out_len);
+/* A new leaf. out (6 bytes): the new node (2), rows renumbered (2), head (2). The refusals in their order: 3, 1, 5, 13, 2, 4. */
+uint16_t nca_add_leaf(uint8_t *tree, size_t tree_len, uint16_t parent, uint16_t label, uint16_t face, uint8_t *out, size_t out_len);
 
 /* A new root over the present one, or the first node. out (6 bytes): the new node (2), rows renumbered (2), head (2).
  * named and opening: as in the table form; on an empty tree an opening that is named is checked and otherwise unused. The refusals in their order:
@@ -122,18 +125,19 @@ uint16_t nca_query(const uint8_t *tree, size_t tree_len, uint16_t x, uint16_t y,
 
 /* Logs. A log is a run of fields: a tag (1 byte), a length (2 bytes, high byte first) and a body of that length. The reader needs no table. */
 
-enum nca_tag {
-    NCA_END = 0, /* no field: the log ends there */
-    NCA_LEAF = 1,
+/* What a field is: its tag, but that a leaf with a face, tag 5, is a leaf too. */
+enum nca_kind {
+    NCA_END = 0,  /* no field: the log ends there */
+    NCA_LEAF = 1, /* of tag 1, whose face is 0, and of tag 5 */
     NCA_ROOT = 2,
     NCA_QUESTION = 3,
     NCA_ALIKE = 4,
     NCA_FILLER = 9
 };
 
-/* The field at a place of a log. out (3): its tag, and its values: parent and label of a leaf; named and opening of a new root, which are 1 and the opening
- * where the field has length 2, 0 and 0 where it has length 0; x and y of a question and of alike; 0 and 0 of filler.
- * At the log's end, and at a place past it, all three are 0. */
+/* The field at a place of a log. out (4): its kind, and three values: parent, label and face of a leaf; named and opening of a new root, which are 1 and the
+ * opening where the field has length 2, 0 and 0 where it has length 0; x and y of a question and of alike. A value that a field does not have is 0. Labels,
+ * openings and faces are told as they stand: it is a growth that refuses them. At the log's end, and at a place past it, all four are 0. */
 uint16_t nca_log_field(const uint8_t *log, size_t log_len, size_t at, uint16_t *out, size_t out_len);
 
 /* The place past the field at a place, which it has on a refusal too; the same place where the log ends there or the field is cut short. */

@@ -21,7 +21,7 @@ int main(void) {
     root = out[1];
     for (unsigned i = 0; i < sizeof parents / sizeof parents[0]; i++) {
         uint16_t refusal = parents[i] == ROOT ? nca_table_add_root(PARTS, scratch, CAPACITY, out[0], root, 0, 0, out, 4)
-                                              : nca_table_add_leaf(PARTS, scratch, CAPACITY, out[0], parents[i], (uint16_t)(i + 2), out, 4);
+                                              : nca_table_add_leaf(PARTS, scratch, CAPACITY, out[0], parents[i], (uint16_t)(i + 2), 0, out, 4);
         if (refusal != 0) return 1;
         if (parents[i] == ROOT) root = out[1];
     }

@@ -131,7 +131,7 @@ impl Reading<'_> {
             if at_x.level != at_y.level {
                 return Ok(0);
             }
-            if x == y || at_x.row.label != at_y.row.label {
+            if x == y || (at_x.row.label, at_x.row.face) != (at_y.row.label, at_y.row.face) {
                 return Ok((x == y) as u16);
             }
             (x, y) = (self.plain_parent(x, root)?, self.plain_parent(y, root)?);

@@ -22,7 +22,9 @@ pub fn capacities() -> String {
 
 /// Refusal 3 by every call that is lent a tally, whatever else it is given.
 pub fn refused(table: &mut Table, scratch: &mut Lent<u16>, (x, v, label): (u16, u16, u16), what: impl Fn() -> String) {
-    equal(table.add_leaf(scratch, v, label).map(|_| ()), Err(3), || format!("a leaf with {}", what()));
+    for face in [0, 1, 2] {
+        equal(table.add_leaf(scratch, v, label, face).map(|_| ()), Err(3), || format!("a leaf with {}", what()));
+    }
     equal(table.add_first(scratch).map(|_| ()), Err(3), || format!("a first node with {}", what()));
     for opening in [Opening::NONE, Opening::of(label)] {
         equal(table.add_root(scratch, x, opening).map(|_| ()), Err(3), || format!("a new root with {}", what()));
@@ -81,7 +83,9 @@ pub fn answers() -> String {
         let what = || format!("an answer of {len} places");
         if len != 4 {
             equal(table.add_first_to(Lent::marked(len), &scratch).map(|_| ()), Err(3), what);
-            equal(table.add_leaf_to(Lent::marked(len), &scratch, 0, 1).map(|_| ()), Err(3), what);
+            for face in [0, 1, 2] {
+                equal(table.add_leaf_to(Lent::marked(len), &scratch, (0, 1, face)).map(|_| ()), Err(3), what);
+            }
             for opening in [Opening::NONE, Opening::of(7), Opening::of(0)] {
                 equal(table.add_root_to(Lent::marked(len), &scratch, 0, opening).map(|_| ()), Err(3), what);
             }
@@ -93,24 +97,27 @@ pub fn answers() -> String {
     format!("{} lengths", lengths.len())
 }
 
-/// Labels and openings 9,999 and 10,000; the 128th and 129th node.
+/// Labels and openings 9,999 and 10,000; faces 1 and 2; the 128th and 129th node.
 pub fn limits() -> String {
     let (mut table, scratch) = (Table::new(128, true), Lent::new(128, 0));
     equal(table.set_up(), Ok(()), || "set-up".into());
-    equal(table.add_leaf(&scratch, 0, 1).map(|g| g.node), Err(1), || "leaf of an empty tree".into());
+    equal(table.add_leaf(&scratch, 0, 1, 0).map(|g| g.node), Err(1), || "leaf of an empty tree".into());
     equal(table.add_root(&scratch, 0, Opening::NONE).map(|g| g.node), Err(1), || "new root of an empty tree".into());
     equal(table.add_root(&scratch, 0, Opening::of(0)).map(|g| g.node), Err(1), || "opening 0 in an empty tree".into());
     equal(table.add_first(&scratch).map(|g| g.node), Ok(0), || "first node".into());
-    equal(table.add_leaf(&scratch, 0, 9999).map(|g| g.node), Ok(1), || "label 9,999".into());
-    equal(table.add_leaf(&scratch, 0, 10000).map(|g| g.node), Err(5), || "label 10,000".into());
-    equal(table.add_leaf(&scratch, 0, 0).map(|g| g.node), Err(5), || "label 0".into());
+    equal(table.add_leaf(&scratch, 0, 9999, 1).map(|g| g.node), Ok(1), || "label 9,999, face 1".into());
+    equal(table.add_leaf(&scratch, 0, 10000, 0).map(|g| g.node), Err(5), || "label 10,000".into());
+    equal(table.add_leaf(&scratch, 0, 0, 0).map(|g| g.node), Err(5), || "label 0".into());
+    equal(table.add_leaf(&scratch, 0, 9999, 2).map(|g| g.node), Err(13), || "face 2".into());
     equal(table.add_root(&scratch, 0, Opening::of(10000)).map(|g| g.node), Err(5), || "opening 10,000".into());
     equal(table.add_root(&scratch, 0, Opening::of(0)).map(|g| g.node), Err(5), || "opening 0".into());
     equal(table.add_root(&scratch, 0, Opening::of(9999)).map(|g| g.node), Ok(2), || "opening 9,999".into());
     for node in 3..128 {
-        equal(table.add_leaf(&scratch, node / 2, 1).map(|g| g.node), Ok(node), || format!("node {node}"));
+        equal(table.add_leaf(&scratch, node / 2, 1, node % 2).map(|g| g.node), Ok(node), || format!("node {node}"));
     }
-    equal(table.add_leaf(&scratch, 0, 1).map(|g| g.node), Err(2), || "129th node".into());
+    equal(table.add_leaf(&scratch, 0, 1, 1).map(|g| g.node), Err(2), || "129th node".into());
+    equal(table.add_leaf(&scratch, 0, 1, 2).map(|g| g.node), Err(13), || "face 2, before full".into());
+    equal(table.add_leaf(&scratch, 0, 0, 2).map(|g| g.node), Err(5), || "label 0, before face 2".into());
     equal(table.add_root(&scratch, 2, Opening::NONE).map(|g| g.node), Err(2), || "129th node as root".into());
     equal(table.add_root(&scratch, 2, Opening::of(1)).map(|g| g.node), Err(2), || "129th node as root through an opening".into());
     equal(table.add_root(&scratch, 2, Opening::of(10000)).map(|g| g.node), Err(5), || "opening 10,000, before full".into());

@@ -2,10 +2,11 @@
 //! inspection says what the naive rules say, questions and growths what the naive reading says; a table that passes answers as its plain tree does.
 
 use crate::checks::{check, equal};
-use crate::engine::{Grown, Opening, Reply, Table, ENTRIES, FIELDS, NONE, NUMBERS, ROOT, TREE};
-use crate::labels::Labels;
+use crate::engine::{Grown, Opening, Reply, Table, ENTRIES, FACE, FIELDS, NONE, NUMBERS, ROOT, TREE};
+use crate::faces;
 use crate::lent::Lent;
 use crate::lists::{List, MIXES, SHAPES};
+use crate::marks::Marks;
 use crate::places;
 use crate::random::Random;
 use crate::reading::Reading;
@@ -89,6 +90,14 @@ fn change_tree(table: &mut Table, random: &mut Random) {
     }
 }
 
+/// A face changed, of any row or of a root: to the other one, or to none.
+fn change_face(table: &mut Table, random: &mut Random) {
+    let rows = (table.count as usize).clamp(1, table.levels.part().len());
+    let row = root(table, random) as usize;
+    let row = if row < rows && random.one_in(2) { row } else { random.below(rows) };
+    table.fields.part_mut()[FIELDS * row + FACE] = if random.one_in(2) { 1 } else { faces::ODD[random.below(4)] };
+}
+
 /// A table filled with anything; links often lie below the count, so that calls go on.
 fn filled(capacity: usize, random: &mut Random) -> Table {
     let mut table = Table::new(capacity, true);
@@ -107,12 +116,13 @@ fn damaged(pool: &[Table], random: &mut Random) -> Table {
         return filled(1 + random.below(12), random);
     }
     let mut table = pool[random.below(pool.len())].clone();
-    match random.below(9) {
+    match random.below(10) {
         0 => table.count = [table.count.wrapping_sub(1), table.count + 1, 0, 65535, random.word() as u16][random.below(5)],
         1 => change_tree(&mut table, random),
         2 => (0..20).for_each(|_| change(&mut table, random)),
         3 => (0..4).for_each(|_| change(&mut table, random)),
         4..=7 => change(&mut table, random),
+        8 => change_face(&mut table, random),
         _ => (),
     }
     recount(&mut table, random);
@@ -148,10 +158,10 @@ fn root(t: &Table, random: &mut Random) -> u16 {
 }
 
 /// A growth that is as it was read, and on a table that passes is served or refused as the plain list does it.
-fn grown(call: &str, labels: Labels, tables: (&Table, &Table), good: Option<Reply<u16>>, found: Reply<Grown>, read: Reply<Grown>) {
+fn grown(call: &str, marks: Marks, tables: (&Table, &Table), good: Option<Reply<u16>>, found: Reply<Grown>, read: Reply<Grown>) {
     let (before, after) = tables;
     equal(found, read, || format!("{call} on a damaged table"));
-    check(found.is_err() || labels.are_left(before, after), || format!("labels and tally after {call} on a damaged table"));
+    check(found.is_err() || marks.are_left(before, after), || format!("labels, faces and tally after {call} on a damaged table"));
     if let Some(expected) = good {
         equal(found.map(|g| g.node), expected, || format!("{call} on a table that passes"));
         check(found.is_err() || rules::passes(after), || format!("{call} broke the rules"));
@@ -165,20 +175,22 @@ fn grow(table: &Table, good: bool, random: &mut Random) {
     let plain = good.then(|| rules::plain(table));
 
     let (mut leaf, parent, label) = (table.clone(), node(table.count, random), [1, 7, 9999, 10000][random.below(4)]);
-    let found = leaf.add_leaf(&scratch, parent, label);
-    let expected = plain.clone().map(|mut p| p.add_leaf(length, parent, label));
-    grown("leaf", Labels::of(label), (table, &leaf), expected, found, Reading::of(table).add_leaf(length, parent, label));
+    let face = faces::any(random);
+    let found = leaf.add_leaf(&scratch, parent, label, face);
+    let expected = plain.clone().map(|mut p| p.add_leaf(length, parent, label, face));
+    let read = Reading::of(table).add_leaf(length, parent, label, face);
+    grown("leaf", Marks::leaf(label, face), (table, &leaf), expected, found, read);
 
     let mut first = table.clone();
     let found = first.add_first(&scratch);
     let expected = plain.clone().map(|mut p| p.add_first(length));
-    grown("first node", Labels::of(0), (table, &first), expected, found, Reading::of(table).add_first(length));
+    grown("first node", Marks::FIRST, (table, &first), expected, found, Reading::of(table).add_first(length));
 
     let (mut over, x, opening) = (table.clone(), root(table, random), Opening::any([1, 7, 9999, 10000][random.below(4)], random));
     let found = over.add_root(&scratch, x, opening);
     let expected = plain.clone().map(|mut p| p.add_root(length, x, opening.label()));
     let read = Reading::of(table).add_root(length, x, opening.label());
-    grown(&format!("new root with {opening:?}"), Labels::over(x, opening), (table, &over), expected, found, read);
+    grown(&format!("new root with {opening:?}"), Marks::over(x, opening), (table, &over), expected, found, read);
 }
 
 /// A link is served exactly where nothing else refuses it and inspection passes.

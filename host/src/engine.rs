@@ -3,6 +3,7 @@
 use crate::checks::check;
 use crate::lent::{Lent, Word};
 use crate::random::Random;
+use crate::raw;
 use crate::tally;
 
 pub const NONE: u16 = 65535;
@@ -22,6 +23,7 @@ pub const SET_SIZE: usize = 7;
 pub const DEPTH: usize = 8;
 pub const LABEL: usize = 9;
 pub const ROOT: usize = 10;
+pub const FACE: usize = 11;
 
 /// The places of a row's numbers.
 pub const START: usize = 0;
@@ -32,149 +34,6 @@ pub const TREE: usize = 121;
 
 /// The fields of a row that set-up leaves.
 pub const BLANK: [u16; FIELDS] = [NONE, NONE, NONE, NONE, NONE, NONE, 0, 0, 0, 0, NONE, 0];
-
-mod raw {
-    #[link(name = "vundreli", kind = "static")]
-    extern "C" {
-        pub fn nca_table_set_up(
-            fields: *mut u16,
-            fields_len: usize,
-            numbers: *mut u64,
-            numbers_len: usize,
-            levels: *mut i32,
-            levels_len: usize,
-            ancestors: *mut u16,
-            ancestors_len: usize,
-            tally: *mut u16,
-            tally_len: usize,
-            out: *mut u16,
-            out_len: usize,
-        ) -> u16;
-        pub fn nca_table_add_first(
-            fields: *mut u16,
-            fields_len: usize,
-            numbers: *mut u64,
-            numbers_len: usize,
-            levels: *mut i32,
-            levels_len: usize,
-            ancestors: *mut u16,
-            ancestors_len: usize,
-            tally: *mut u16,
-            tally_len: usize,
-            scratch: *const u16,
-            scratch_len: usize,
-            count: u16,
-            out: *mut u16,
-            out_len: usize,
-        ) -> u16;
-        pub fn nca_table_add_leaf(
-            fields: *mut u16,
-            fields_len: usize,
-            numbers: *mut u64,
-            numbers_len: usize,
-            levels: *mut i32,
-            levels_len: usize,
-            ancestors: *mut u16,
-            ancestors_len: usize,
-            tally: *mut u16,
-            tally_len: usize,
-            scratch: *const u16,
-            scratch_len: usize,
-            count: u16,
-            parent: u16,
-            label: u16,
-            out: *mut u16,
-            out_len: usize,
-        ) -> u16;
-        pub fn nca_table_add_root(
-            fields: *mut u16,
-            fields_len: usize,
-            numbers: *mut u64,
-            numbers_len: usize,
-            levels: *mut i32,
-            levels_len: usize,
-            ancestors: *mut u16,
-            ancestors_len: usize,
-            tally: *mut u16,
-            tally_len: usize,
-            scratch: *const u16,
-            scratch_len: usize,
-            count: u16,
-            x: u16,
-            named: u16,
-            opening: u16,
-            out: *mut u16,
-            out_len: usize,
-        ) -> u16;
-        pub fn nca_table_link(
-            fields: *mut u16,
-            fields_len: usize,
-            numbers: *mut u64,
-            numbers_len: usize,
-            levels: *mut i32,
-            levels_len: usize,
-            ancestors: *mut u16,
-            ancestors_len: usize,
-            tally: *mut u16,
-            tally_len: usize,
-            scratch: *mut u16,
-            scratch_len: usize,
-            count: u16,
-            x: u16,
-            v: u16,
-            label: u16,
-            out: *mut u32,
-            out_len: usize,
-        ) -> u16;
-        pub fn nca_table_query(
-            fields: *const u16,
-            fields_len: usize,
-            numbers: *const u64,
-            numbers_len: usize,
-            levels: *const i32,
-            levels_len: usize,
-            ancestors: *const u16,
-            ancestors_len: usize,
-            count: u16,
-            x: u16,
-            y: u16,
-            out: *mut i32,
-            out_len: usize,
-        ) -> u16;
-        pub fn nca_table_alike(
-            fields: *const u16,
-            fields_len: usize,
-            numbers: *const u64,
-            numbers_len: usize,
-            levels: *const i32,
-            levels_len: usize,
-            ancestors: *const u16,
-            ancestors_len: usize,
-            count: u16,
-            x: u16,
-            y: u16,
-            out: *mut u16,
-            out_len: usize,
-        ) -> u16;
-        pub fn nca_table_inspect(
-            fields: *const u16,
-            fields_len: usize,
-            numbers: *const u64,
-            numbers_len: usize,
-            levels: *const i32,
-            levels_len: usize,
-            ancestors: *const u16,
-            ancestors_len: usize,
-            tally: *const u16,
-            tally_len: usize,
-            scratch: *mut u16,
-            scratch_len: usize,
-            count: u16,
-            out: *mut u16,
-            out_len: usize,
-        ) -> u16;
-    }
-}
 
 /// A table's lent parts and its tally, and its count.
 #[derive(Clone)]
@@ -316,7 +175,7 @@ impl Table {
     /// What holds after every call: guards as they were, parts too where the call stores nothing.
     fn after<T: Word>(&self, call: &str, code: u16, before: Option<Table>, stores: bool, out: &Lent<T>) {
         check(self.is_guarded() && out.is_guarded(), || format!("{call} touched a guard"));
-        check(code <= 5 || (10..=12).contains(&code), || format!("{call} gave {code}"));
+        check(code <= 5 || (10..=12).contains(&code) || code == 13 && call == "leaf", || format!("{call} gave {code}"));
         if code != 0 {
             check(out.part().iter().all(|c| *c == T::MARK), || format!("{call} refused by {code} and stored an answer"));
         }
@@ -355,16 +214,16 @@ impl Table {
         self.grown("first node", code, before, scratch, kept, &out)
     }
 
-    pub fn add_leaf(&mut self, scratch: &Lent<u16>, parent: u16, label: u16) -> Reply<Grown> {
-        self.add_leaf_to(Lent::marked(GROWN), scratch, parent, label)
+    pub fn add_leaf(&mut self, scratch: &Lent<u16>, parent: u16, label: u16, face: u16) -> Reply<Grown> {
+        self.add_leaf_to(Lent::marked(GROWN), scratch, (parent, label, face))
     }
 
     /// A leaf that answers to a slice of any length.
-    pub fn add_leaf_to(&mut self, mut out: Lent<u16>, scratch: &Lent<u16>, parent: u16, label: u16) -> Reply<Grown> {
+    pub fn add_leaf_to(&mut self, mut out: Lent<u16>, scratch: &Lent<u16>, (parent, label, face): (u16, u16, u16)) -> Reply<Grown> {
         let (before, kept) = (self.copy(), self.watched.then(|| scratch.clone()));
         let s = scratch.part();
         let o = out.part_mut();
-        let code = lend_mut!(nca_table_add_leaf, self, s.as_ptr(), s.len(), self.count, parent, label, o.as_mut_ptr(), o.len());
+        let code = lend_mut!(nca_table_add_leaf, self, s.as_ptr(), s.len(), self.count, parent, label, face, o.as_mut_ptr(), o.len());
         self.grown("leaf", code, before, scratch, kept, &out)
     }
 

@@ -1,18 +1,17 @@
 //! What stays as it was (document 02, M-101). After a served growth every row other than the head and those below it is unchanged in every number, but for
-//! seven named exceptions; after a served link so is every row of other trees; after a refused call all is. Of labels a growth changes the new row's and,
-//! where it names an opening, the old root's; of the tally it changes one entry and a link two, and the last is found anew. The parts are compared over
-//! their whole length, the rows not in use and the spare places among them, which hold anything here. The head answered is the one that document 01's rule
-//! gives.
+//! eight named exceptions; after a served link so is every row of other trees; after a refused call all is. Of labels and faces a growth changes the new
+//! row's and, where it names an opening, the old root's, and a link the linked root's; of the tally a growth changes one entry and a link two, and the last
+//! is found anew. The parts are compared over their whole length, the rows not in use among them, which hold anything here. The head answered is the one
+//! that document 01's rule gives.
 //! At capacities to 1,024 every call is looked at, above that each link and one growth in so many, since a look goes over the whole table.
 
 use crate::checks::{check, equal};
-use crate::engine::{
-    Grown, Linked, Opening, Reply, Table, ENTRIES, FIELDS, FIRST, LABEL, LAST, NEXT, NEXT_FREE, NONE, NUMBERS, PARENT, PATH, ROOT,
-    SET_SIZE, SIZE, UPPER,
-};
-use crate::labels::Labels;
+use crate::engine::{Grown, Linked, Opening, Table, FACE, FIELDS};
+use crate::faces;
 use crate::lent::Lent;
 use crate::lists::{Mix, Shape, MIXES, SHAPES};
+use crate::marks;
+use crate::outside::{below, capacity, changed, first_row, Exception, Growth, Served, EXCEPTIONS};
 use crate::random::Random;
 use crate::rules;
 use crate::tally;
@@ -21,177 +20,9 @@ use crate::variants;
 const POOL: usize = 120;
 const VARIANTS: usize = 20_000;
 
-/// The field that is not used.
-const SPARE: usize = 11;
-
-#[derive(Clone, Copy, Debug)]
-enum Part {
-    Fields,
-    Numbers,
-    Levels,
-    Ancestors,
-}
-
-/// One number of a row: which of a part's.
-type Place = (Part, usize);
-
-/// What may change outside the head.
-#[derive(Clone, Copy, Debug)]
-enum Exception {
-    Size,
-    Root,
-    NextFree,
-    First,
-    Last,
-    Next,
-    Label,
-}
-
-const EXCEPTIONS: usize = 7;
-
-#[derive(Clone, Copy, Debug)]
-enum Growth {
-    First,
-    Leaf(u16, u16),
-    Root(u16, Opening),
-}
-
-fn field(t: &Table, v: u16, k: usize) -> u16 {
-    t.fields.part()[FIELDS * v as usize + k]
-}
-
-fn capacity(t: &Table) -> usize {
-    t.levels.part().len()
-}
-
-/// A row and those above it by a link, in this order.
-fn line(t: &Table, mut v: u16, link: usize) -> Vec<u16> {
-    let mut line = Vec::new();
-    while v != NONE {
-        line.push(v);
-        v = field(t, v, link);
-    }
-    line
-}
-
-/// The first row of a row's stored tree.
-fn first_row(t: &Table, v: u16) -> u16 {
-    *line(t, v, PARENT).last().expect("a row")
-}
-
-/// Of every row whether it lies at or below another in the stored tree: up from each by stored parents, as far as that is not known yet.
-fn below(t: &Table, head: u16) -> Vec<bool> {
-    let mut known = vec![None; capacity(t)];
-    known[head as usize] = Some(true);
-    for v in 0..t.count {
-        let (mut way, mut w) = (Vec::new(), v);
-        while w != NONE && known[w as usize].is_none() {
-            way.push(w);
-            w = field(t, w, PARENT);
-        }
-        let lies = w != NONE && known[w as usize] == Some(true);
-        way.into_iter().for_each(|u| known[u as usize] = Some(lies));
-    }
-    known.into_iter().map(|lies| lies == Some(true)).collect()
-}
-
-/// The places of a row that differ.
-fn changed(a: &Table, b: &Table, v: usize) -> Vec<Place> {
-    fn differ<T: PartialEq>(part: Part, a: &[T], b: &[T], v: usize, width: usize) -> Vec<Place> {
-        let (a, b) = (&a[width * v..][..width], &b[width * v..][..width]);
-        if a == b {
-            return Vec::new();
-        }
-        (0..width).filter(|k| a[*k] != b[*k]).map(|k| (part, k)).collect()
-    }
-    let fields = differ(Part::Fields, a.fields.part(), b.fields.part(), v, FIELDS);
-    let numbers = differ(Part::Numbers, a.numbers.part(), b.numbers.part(), v, NUMBERS);
-    let levels = differ(Part::Levels, a.levels.part(), b.levels.part(), v, 1);
-    let entries = differ(Part::Ancestors, a.ancestors.part(), b.ancestors.part(), v, ENTRIES);
-    [fields, numbers, levels, entries].concat()
-}
-
-impl Growth {
-    /// The stored parent of the new row.
-    fn parent(self) -> u16 {
-        match self {
-            Growth::First => NONE,
-            Growth::Leaf(v, _) | Growth::Root(v, _) => v,
-        }
-    }
-
-    fn is_root(self) -> bool {
-        matches!(self, Growth::Root(..))
-    }
-
-    /// Whether the stored parent, an old root, takes an opening.
-    fn names_opening(self) -> bool {
-        matches!(self, Growth::Root(_, opening) if opening.label().is_some())
-    }
-
-    fn labels(self) -> Labels {
-        match self {
-            Growth::First => Labels::of(0),
-            Growth::Leaf(_, label) => Labels::of(label),
-            Growth::Root(x, opening) => Labels::over(x, opening),
-        }
-    }
-
-    fn call(self, table: &mut Table, scratch: &Lent<u16>) -> Reply<Grown> {
-        match self {
-            Growth::First => table.add_first(scratch),
-            Growth::Leaf(parent, label) => table.add_leaf(scratch, parent, label),
-            Growth::Root(x, opening) => table.add_root(scratch, x, opening),
-        }
-    }
-
-    /// The highest row of the new row's chain that has 5s ≥ 6σ once the new row is counted. The new row, which has no set size yet, always has.
-    fn head(self, before: &Table) -> u16 {
-        let parent = self.parent();
-        if parent == NONE {
-            return before.count;
-        }
-        let above = field(before, parent, PARENT);
-        let is_apex = above == NONE || field(before, above, PATH) != parent;
-        let upper = if is_apex { parent } else { field(before, parent, UPPER) };
-        let outgrown = |v: &u16| 5 * (u32::from(field(before, *v, SIZE)) + 1) >= 6 * u32::from(field(before, *v, SET_SIZE));
-        line(before, upper, UPPER).into_iter().rev().find(outgrown).unwrap_or(before.count)
-    }
-}
-
-/// A growth that was served, the table after it, and what its exceptions ask for.
-struct Served<'a> {
-    growth: Growth,
-    after: &'a Table,
-    /// The compressed ancestors of the head, itself not among them.
-    chain: Vec<u16>,
-    /// The first row of the tree.
-    first: u16,
-}
-
-impl Served<'_> {
-    fn of(growth: Growth, after: &Table, grown: Grown) -> Served<'_> {
-        let chain = line(after, field(after, grown.head, UPPER), UPPER);
-        Served { growth, after, chain, first: first_row(after, grown.node) }
-    }
-
-    /// Why a place of a row outside the head may change; none where it may not.
-    fn exception(&self, v: u16, place: Place) -> Option<Exception> {
-        let parent = self.growth.parent();
-        let is_parent = v == parent;
-        let is_child = v < self.after.count && parent != NONE && field(self.after, v, PARENT) == parent;
-        match place {
-            (Part::Fields, SIZE) if self.chain.contains(&v) => Some(Exception::Size),
-            (Part::Fields, ROOT) if self.growth.is_root() && v == self.first => Some(Exception::Root),
-            (Part::Numbers, NEXT_FREE) if self.chain.first() == Some(&v) => Some(Exception::NextFree),
-            (Part::Fields, FIRST) if is_parent => Some(Exception::First),
-            (Part::Fields, LAST) if is_parent => Some(Exception::Last),
-            (Part::Fields, NEXT) if is_child => Some(Exception::Next),
-            (Part::Fields, LABEL) if is_parent && self.growth.names_opening() => Some(Exception::Label),
-            _ => None,
-        }
-    }
-}
+/// The exceptions that growths of lists of calls meet: a row without children is an apex with s = σ = 1, so the head lies at or above it and no *first* link
+/// changes outside the head; and a root's face is 0 already.
+const OF_LISTS: [bool; EXCEPTIONS] = [true, true, true, false, true, true, true, false];
 
 /// What was looked at, and what was met there.
 #[derive(Default)]
@@ -205,7 +36,7 @@ struct Met {
     between: usize,
     /// Changes outside the head, by exception.
     exceptions: [usize; EXCEPTIONS],
-    /// New roots that name no opening and have their old root outside the head, which keeps its label.
+    /// New roots that name no opening and have their old root outside the head, which keeps its label and face.
     kept: usize,
 }
 
@@ -215,7 +46,7 @@ impl Met {
         let what = |say: String| format!("{growth:?} on {} rows at capacity {}: {say}", before.count, capacity(before));
         equal((grown.node, after.count), (before.count, before.count + 1), || what("the new row".into()));
         equal(grown.head, growth.head(before), || what("the head".into()));
-        check(growth.labels().are_left(before, after), || what("labels and tally".into()));
+        check(growth.marks().are_left(before, after), || what("labels, faces and tally".into()));
         let (below, served) = (below(after, grown.head), Served::of(growth, after, grown));
         check(below[grown.node as usize], || what("the new row is not below the head".into()));
         equal(below.iter().filter(|b| **b).count(), grown.rows as usize, || what("rows below the head".into()));
@@ -240,6 +71,9 @@ impl Met {
         equal(linked.head, u32::from(receiving), || what("the head".into()));
         equal(after.count, before.count, || what("the count".into()));
         check(after.tally.part() == tally::linked(before.tally.part(), label), || what("the tally".into()));
+        let mut left = marks::column(before);
+        left[x as usize] = (label, 0);
+        check(marks::column(after) == left, || what("labels and faces".into()));
         let trees: Vec<bool> = below(before, moved).into_iter().zip(below(before, receiving)).map(|(a, b)| a || b).collect();
         check(below(after, receiving) == trees, || what("the rows of the tree that both became".into()));
         for v in (0..capacity(before)).filter(|v| !trees[*v]) {
@@ -280,11 +114,11 @@ impl Met {
     }
 
     fn say(&self) -> String {
-        let [size, root, next_free, first, last, next, label] = self.exceptions;
+        let [size, root, next_free, first, last, next, label, face] = self.exceptions;
         format!(
             "{} growths, {} links and {} refused calls looked at, {} heads neither the new row nor row 0, {} rows in use outside a head; there \
-             changed {size} sizes, {root} roots, {next_free} next free numbers, {first} first, {last} last and {next} next links and {label} labels of \
-             old roots; {} old roots kept theirs",
+             changed {size} sizes, {root} roots, {next_free} next free numbers, {first} first, {last} last and {next} next links, {label} labels and \
+             {face} faces of old roots; {} old roots kept theirs",
             self.growths, self.links, self.refused, self.between, self.outside, self.kept
         )
     }
@@ -365,14 +199,13 @@ impl List {
         } else if random.one_in(self.mix.links) {
             return self.link(met, random);
         } else {
-            Growth::Leaf(self.shape.parent(count, random) as u16, List::label(random))
+            Growth::Leaf(self.shape.parent(count, random) as u16, List::label(random), faces::any(random))
         };
         met.grow(growth, &mut self.table, &self.scratch, look);
     }
 }
 
-/// Lists at capacities to 1,024, every call looked at. No *first* link changes outside the head: a row without children is an apex with s = σ = 1, so the
-/// head lies at or above it.
+/// Lists at capacities to 1,024, every call looked at.
 pub fn lists() -> String {
     let (mut random, mut met) = (Random::new(12), Met::default());
     for (round, capacity) in (1..=40).chain([64, 100, 128, 129, 256, 500, 1024]).enumerate() {
@@ -381,7 +214,7 @@ pub fn lists() -> String {
             (0..capacity * 2 + 6).for_each(|_| list.call(&mut met, true, &mut random));
         }
     }
-    equal(met.has_met(), [true, true, true, false, true, true, true], || "the exceptions that lists of calls meet".into());
+    equal(met.has_met(), OF_LISTS, || "the exceptions that lists of calls meet".into());
     check(met.kept > 0, || "no old root outside the head kept its label".into());
     check(met.between > met.growths / 4, || format!("{} heads of {} are neither the new row nor row 0", met.between, met.growths));
     met.say()
@@ -399,48 +232,73 @@ pub fn large() -> String {
         }
         (0..8).for_each(|_| list.link(&mut met, &mut random));
     }
-    equal(met.has_met(), [true, true, true, false, true, true, true], || "the exceptions that large tables meet".into());
+    equal(met.has_met(), OF_LISTS, || "the exceptions that large tables meet".into());
     met.say()
 }
 
-/// A table that passes inspection though no list of calls makes it, with room for one row more.
-fn variant(pool: &[Table], random: &mut Random) -> Option<Table> {
-    let mut table = variants::of(&pool[random.below(pool.len())], random);
-    for v in 0..table.count as usize {
-        table.fields.part_mut()[FIELDS * v + SPARE] = random.word() as u16;
+/// Tables that lists of calls leave.
+fn pool(random: &mut Random) -> Vec<Table> {
+    (0..POOL)
+        .map(|i| {
+            let mut list = List::new(8 + i % 24, SHAPES[i % 6], MIXES[i / 6 % 4], random);
+            let rows = 6 + random.below(capacity(&list.table) - 6) as u16;
+            while list.table.count < rows {
+                list.call(&mut Met::default(), false, random);
+            }
+            list.table
+        })
+        .collect()
+}
+
+/// Tables that pass inspection though no list of calls makes them, out of so many that are tried.
+fn variants(tried: usize, random: &mut Random) -> Vec<Table> {
+    let pool = pool(random);
+    let variant = |_| variants::of(&pool[random.below(POOL)], random);
+    (0..tried).map(variant).filter(rules::passes).collect()
+}
+
+impl Met {
+    /// Every growth of a table, and a link of each node.
+    fn each(&mut self, table: &Table, random: &mut Random) {
+        let mut scratch = Lent::new(capacity(table), 0);
+        self.grow(Growth::First, &mut table.clone(), &scratch, true);
+        for x in 0..table.count {
+            self.grow(Growth::Leaf(x, 1, x % 2), &mut table.clone(), &scratch, true);
+            for opening in [Opening::NONE, Opening::of(1)] {
+                self.grow(Growth::Root(x, opening), &mut table.clone(), &scratch, true);
+            }
+            let v = random.below(table.count as usize) as u16;
+            self.join((x, v, 1), &mut table.clone(), &mut scratch);
+        }
     }
-    rules::passes(&table).then_some(table)
 }
 
 /// Tables that pass inspection though no list of calls makes them. Here a *first* link changes outside the head too: a row without children may be the next
 /// of a path.
 pub fn unreachable() -> String {
-    let (mut random, mut met, mut passed) = (Random::new(14), Met::default(), 0);
-    let pool: Vec<Table> = (0..POOL)
-        .map(|i| {
-            let mut list = List::new(8 + i % 24, SHAPES[i % 6], MIXES[i / 6 % 4], &mut random);
-            let rows = 6 + random.below(capacity(&list.table) - 6) as u16;
-            while list.table.count < rows {
-                list.call(&mut Met::default(), false, &mut random);
-            }
-            list.table
-        })
-        .collect();
-    for _ in 0..VARIANTS {
-        let Some(table) = variant(&pool, &mut random) else { continue };
-        let mut scratch = Lent::new(capacity(&table), 0);
-        passed += 1;
-        met.grow(Growth::First, &mut table.clone(), &scratch, true);
-        for x in 0..table.count {
-            met.grow(Growth::Leaf(x, 1), &mut table.clone(), &scratch, true);
-            for opening in [Opening::NONE, Opening::of(1)] {
-                met.grow(Growth::Root(x, opening), &mut table.clone(), &scratch, true);
-            }
-            let v = random.below(table.count as usize) as u16;
-            met.join((x, v, 1), &mut table.clone(), &mut scratch);
-        }
-    }
-    equal(met.has_met(), [true; EXCEPTIONS], || "the exceptions that such tables meet".into());
+    let (mut random, mut met) = (Random::new(14), Met::default());
+    let tables = variants(VARIANTS, &mut random);
+    tables.iter().for_each(|table| met.each(table, &mut random));
+    let mut expected = [true; EXCEPTIONS];
+    expected[Exception::Face as usize] = false;
+    equal(met.has_met(), expected, || "the exceptions that such tables meet".into());
     check(met.kept > 0, || "no old root outside the head kept its label".into());
-    format!("{passed} tables, {}", met.say())
+    format!("{} tables, {}", tables.len(), met.say())
+}
+
+/// The same with a face other than 0 at every root and any at the other rows. No growth looks at a face, but an old root that takes an opening has 0 then,
+/// outside the head too; every link is refused.
+pub fn odd_faces() -> String {
+    let (mut random, mut met) = (Random::new(15), Met::default());
+    let mut tables = variants(VARIANTS / 4, &mut random);
+    for table in &mut tables {
+        for v in 0..table.count {
+            let face = if table.root_of(v) == v { 1 + random.below(65535) } else { random.below(65536) };
+            table.fields.part_mut()[FIELDS * v as usize + FACE] = face as u16;
+        }
+        met.each(table, &mut random);
+    }
+    equal(met.has_met(), [true; EXCEPTIONS], || "the exceptions that tables with odd faces meet".into());
+    check(met.kept > 0 && met.links == 0, || format!("{} old roots kept their face, {} links were served", met.kept, met.links));
+    format!("{} tables, {}", tables.len(), met.say())
 }

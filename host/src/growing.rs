@@ -36,6 +36,14 @@ impl Reading<'_> {
         }
     }
 
+    fn has_face(face: u16) -> Reply<()> {
+        if face <= 1 {
+            Ok(())
+        } else {
+            Err(13)
+        }
+    }
+
     /// An opening that is named is a label.
     fn has_opening(opening: Option<u16>) -> Reply<()> {
         opening.map_or(Ok(()), Self::has_label)
@@ -57,10 +65,11 @@ impl Reading<'_> {
         Ok(Grown { node: self.table.count, rows: 1, head: self.table.count })
     }
 
-    pub fn add_leaf(&mut self, scratch: usize, parent: u16, label: u16) -> Reply<Grown> {
+    pub fn add_leaf(&mut self, scratch: usize, parent: u16, label: u16, face: u16) -> Reply<Grown> {
         let capacity = self.fits(scratch)?;
         self.knows(&[parent])?;
         Self::has_label(label)?;
+        Self::has_face(face)?;
         self.has_room(capacity)?;
         self.has_count(capacity)?;
         let tree = self.tree(parent)?;
@@ -80,7 +89,7 @@ impl Reading<'_> {
         }
     }
 
-    /// A new root over x. The label of x, which the opening takes the place of, is not looked at.
+    /// A new root over x. The label and the face of x, which the opening takes the place of, are not looked at.
     pub fn add_root(&mut self, scratch: usize, x: u16, opening: Option<u16>) -> Reply<Grown> {
         let capacity = self.fits(scratch)?;
         self.knows(&[x])?;

@@ -2,24 +2,21 @@
 //! ties; and new roots through openings.
 
 use crate::checks::equal;
-use crate::engine::{Grown, Linked, Opening, Table, FIELDS, NONE, ROOT};
+use crate::engine::{Grown, Linked, Opening, Table, FIELDS, LABEL, NONE, PARENT, ROOT};
 use crate::lent::Lent;
 use crate::tally::LABELS;
-
-const PARENT: usize = 0;
-const LABEL: usize = 9;
 
 fn field(t: &Table, row: usize, place: usize) -> u16 {
     t.fields.part()[FIELDS * row + place]
 }
 
 /// A field of the rows in use.
-fn column(t: &Table, place: usize) -> Vec<u16> {
+pub fn column(t: &Table, place: usize) -> Vec<u16> {
     (0..t.count as usize).map(|row| field(t, row, place)).collect()
 }
 
 /// A table and a scratch with a pattern.
-fn empty(capacity: usize) -> (Table, Lent<u16>) {
+pub fn empty(capacity: usize) -> (Table, Lent<u16>) {
     let (mut table, mut scratch) = (Table::new(capacity, true), Lent::new(capacity, 0));
     scratch.part_mut().iter_mut().enumerate().for_each(|(i, c)| *c = 777 + 3 * i as u16);
     equal(table.set_up(), Ok(()), || "set-up".into());
@@ -27,10 +24,10 @@ fn empty(capacity: usize) -> (Table, Lent<u16>) {
 }
 
 /// A first node, a leaf under it, and the first node of another tree, at capacity 4.
-fn two_trees() -> (Table, Lent<u16>) {
+pub fn two_trees() -> (Table, Lent<u16>) {
     let (mut table, scratch) = empty(4);
     equal(table.add_first(&scratch).map(|g| g.node), Ok(0), || "a first node".into());
-    equal(table.add_leaf(&scratch, 0, 3).map(|g| g.node), Ok(1), || "a leaf".into());
+    equal(table.add_leaf(&scratch, 0, 3, 0).map(|g| g.node), Ok(1), || "a leaf".into());
     equal(table.add_first(&scratch).map(|g| g.node), Ok(2), || "a second first node".into());
     (table, scratch)
 }
@@ -54,7 +51,7 @@ fn trees_apart() {
 fn root_astray() {
     let (mut table, mut scratch) = two_trees();
     table.fields.part_mut()[ROOT] = 60000;
-    equal(table.add_leaf(&scratch, 0, 1).map(|_| ()), Err(4), || "a leaf of a tree without root".into());
+    equal(table.add_leaf(&scratch, 0, 1, 0).map(|_| ()), Err(4), || "a leaf of a tree without root".into());
     equal(table.add_root(&scratch, 0, Opening::NONE).map(|_| ()), Err(4), || "a new root of a tree without root".into());
     equal(table.query(0, 1), Err(4), || "a question to a tree without root".into());
     equal(table.alike(0, 1), Err(4), || "alike of a tree without root".into());
@@ -111,7 +108,7 @@ fn paths(under: u16, rows: u32) {
     let mut total = 0;
     for first in [0, 128] {
         total += table.add_first(&scratch).map_or(0, |g| u32::from(g.rows));
-        (first..first + 127).for_each(|x| total += table.add_leaf(&scratch, x, 1).map_or(0, |g| u32::from(g.rows)));
+        (first..first + 127).for_each(|x| total += table.add_leaf(&scratch, x, 1, 0).map_or(0, |g| u32::from(g.rows)));
     }
     equal((table.count, total), (256, 2340), || "two paths".into());
     equal(table.link(&mut scratch, 0, under, 3), Ok(Linked { rows, head: 128 }), || format!("a path linked under {under}"));
@@ -130,15 +127,15 @@ fn tie_ended() {
     let (mut table, mut scratch) = empty(6);
     equal(tally(&table), (vec![], 0), || "the tally of no nodes".into());
     (0..2).for_each(|x| equal(table.add_first(&scratch).map(|g| g.node), Ok(x), || "a first node".into()));
-    (2..4).for_each(|x| equal(table.add_leaf(&scratch, 0, 5).map(|g| g.node), Ok(x), || "a leaf".into()));
+    (2..4).for_each(|x| equal(table.add_leaf(&scratch, 0, 5, 0).map(|g| g.node), Ok(x), || "a leaf".into()));
     equal(tally(&table), (vec![(0, 2), (5, 2)], 0), || "a tie of labels 0 and 5".into());
     equal(table.link(&mut scratch, 1, 0, 9).map(|l| l.head), Ok(0), || "a link by door 9".into());
     equal(tally(&table), (vec![(0, 1), (5, 2), (9, 1)], 5), || "the tally after a link".into());
-    equal(table.add_leaf(&scratch, 1, 9).map(|g| g.node), Ok(4), || "a leaf".into());
+    equal(table.add_leaf(&scratch, 1, 9, 0).map(|g| g.node), Ok(4), || "a leaf".into());
     equal(tally(&table), (vec![(0, 1), (5, 2), (9, 2)], 5), || "a tie of labels 5 and 9".into());
-    equal(table.add_leaf(&scratch, 1, 9).map(|g| g.node), Ok(5), || "a leaf".into());
+    equal(table.add_leaf(&scratch, 1, 9, 0).map(|g| g.node), Ok(5), || "a leaf".into());
     equal(tally(&table), (vec![(0, 1), (5, 2), (9, 3)], 9), || "label 9 at the top".into());
-    equal(table.add_leaf(&scratch, 0, 5).map(|g| g.node), Err(2), || "a leaf of a full table".into());
+    equal(table.add_leaf(&scratch, 0, 5, 0).map(|g| g.node), Err(2), || "a leaf of a full table".into());
     equal(tally(&table), (vec![(0, 1), (5, 2), (9, 3)], 9), || "the tally after a refusal".into());
     equal(table.inspect(&mut scratch), Ok(1), || "inspection".into());
 }
@@ -148,9 +145,9 @@ fn tie_reached() {
     let (mut table, mut scratch) = empty(7);
     equal(table.add_first(&scratch).map(|g| g.node), Ok(0), || "a first node".into());
     equal(tally(&table), (vec![(0, 1)], 0), || "one node".into());
-    (1..3).for_each(|x| equal(table.add_leaf(&scratch, 0, 9999).map(|g| g.node), Ok(x), || "a leaf".into()));
+    (1..3).for_each(|x| equal(table.add_leaf(&scratch, 0, 9999, 0).map(|g| g.node), Ok(x), || "a leaf".into()));
     equal(tally(&table), (vec![(0, 1), (9999, 2)], 9999), || "label 9,999 at the top".into());
-    (3..5).for_each(|x| equal(table.add_leaf(&scratch, 0, 1).map(|g| g.node), Ok(x), || "a leaf".into()));
+    (3..5).for_each(|x| equal(table.add_leaf(&scratch, 0, 1, 0).map(|g| g.node), Ok(x), || "a leaf".into()));
     equal(tally(&table), (vec![(0, 1), (1, 2), (9999, 2)], 1), || "a tie of labels 1 and 9,999".into());
     equal(table.add_root(&scratch, 0, Opening::NONE).map(|g| g.node), Ok(5), || "a new root".into());
     equal(tally(&table), (vec![(0, 2), (1, 2), (9999, 2)], 0), || "a tie of three".into());
@@ -178,13 +175,13 @@ fn full_entry() {
         table.tally.part_mut()[label] = entry;
         let refused = |label_of: usize| if label == label_of { Err(4) } else { Ok(3) };
         for new in [3, 9999] {
-            equal(table.clone().add_leaf(&scratch, 0, new).map(|g| g.node), refused(new as usize), || format!("a leaf of label {new}"));
+            equal(table.clone().add_leaf(&scratch, 0, new, 0).map(|g| g.node), refused(new as usize), || format!("a leaf of label {new}"));
         }
         equal(table.clone().add_first(&scratch).map(|g| g.node), refused(0), || "a first node".into());
         equal(table.clone().add_root(&scratch, 0, Opening::NONE).map(|g| g.node), refused(0), || "a new root".into());
         equal(table.add_root(&scratch, 1, Opening::NONE).map(|_| ()), Err(10), || "10 comes before the tally".into());
-        equal(table.add_leaf(&scratch, 0, 0).map(|_| ()), Err(5), || "5 comes before the tally".into());
-        equal(table.add_leaf(&scratch, 3, label as u16).map(|_| ()), Err(1), || "1 comes before the tally".into());
+        equal(table.add_leaf(&scratch, 0, 0, 0).map(|_| ()), Err(5), || "5 comes before the tally".into());
+        equal(table.add_leaf(&scratch, 3, label as u16, 0).map(|_| ()), Err(1), || "1 comes before the tally".into());
         table.tally.part_mut()[label] = 3;
         if label == 0 {
             equal(table.add_first(&scratch).map(|g| g.node), Ok(3), || "an entry one below the capacity".into());
@@ -215,7 +212,7 @@ fn seen_alike() {
     equal(table.add_root(&scratch, 0, Opening::of(7)), Ok(Grown { node: 1, rows: 2, head: 0 }), || "a new root through 7".into());
     equal(column(&table, LABEL), vec![7, 0], || "labels after a new root through 7".into());
     equal(tally(&table), (vec![(0, 1), (7, 1)], 0), || "the tally after a new root through 7".into());
-    equal(table.add_leaf(&scratch, 1, 7).map(|g| g.node), Ok(2), || "a leaf".into());
+    equal(table.add_leaf(&scratch, 1, 7, 0).map(|g| g.node), Ok(2), || "a leaf".into());
     equal(table.alike(0, 2), Ok(1), || "an old root and a leaf of its label".into());
     equal(table.query(0, 2), Ok([1, 0, 2, 1, 1, 0]), || "where both part".into());
     equal(tally(&table), (vec![(0, 1), (7, 2)], 7), || "label 7 at the top".into());
@@ -235,7 +232,7 @@ fn seen_apart() {
     let (mut table, scratch) = empty(3);
     equal(table.add_first(&scratch).map(|g| g.node), Ok(0), || "a first node".into());
     equal(table.add_root(&scratch, 0, Opening { named: 0, number: 7 }).map(|g| g.node), Ok(1), || "a new root that names none".into());
-    equal(table.add_leaf(&scratch, 1, 7).map(|g| g.node), Ok(2), || "a leaf".into());
+    equal(table.add_leaf(&scratch, 1, 7, 0).map(|g| g.node), Ok(2), || "a leaf".into());
     equal(table.alike(0, 2), Ok(0), || "an old root without label and a leaf".into());
     equal(column(&table, LABEL), vec![0, 0, 7], || "labels".into());
 }
@@ -245,7 +242,7 @@ fn second_tree() {
     let (mut table, mut scratch) = empty(9);
     equal(table.add_first(&scratch).map(|g| g.node), Ok(0), || "a first node".into());
     equal(table.add_first(&scratch).map(|g| g.node), Ok(1), || "a second first node".into());
-    (2..7).for_each(|x| equal(table.add_leaf(&scratch, 1, 3).map(|g| g.node), Ok(x), || "a leaf".into()));
+    (2..7).for_each(|x| equal(table.add_leaf(&scratch, 1, 3, 0).map(|g| g.node), Ok(x), || "a leaf".into()));
     equal(table.add_root(&scratch, 1, Opening::of(5)), Ok(Grown { node: 7, rows: 1, head: 7 }), || "a new root that heads itself".into());
     equal(column(&table, LABEL), vec![0, 5, 3, 3, 3, 3, 3, 0], || "labels of two trees".into());
     equal(tally(&table), (vec![(0, 2), (3, 5), (5, 1)], 3), || "the tally of two trees".into());
@@ -256,7 +253,7 @@ fn second_tree() {
 fn tie_by_openings() {
     let (mut table, mut scratch) = empty(5);
     equal(table.add_first(&scratch).map(|g| g.node), Ok(0), || "a first node".into());
-    (1..3).for_each(|x| equal(table.add_leaf(&scratch, 0, 9).map(|g| g.node), Ok(x), || "a leaf".into()));
+    (1..3).for_each(|x| equal(table.add_leaf(&scratch, 0, 9, 0).map(|g| g.node), Ok(x), || "a leaf".into()));
     equal(table.add_root(&scratch, 0, Opening::of(5)).map(|g| g.node), Ok(3), || "a new root through 5".into());
     equal(tally(&table), (vec![(0, 1), (5, 1), (9, 2)], 9), || "label 9 at the top".into());
     equal(table.add_root(&scratch, 3, Opening::of(5)).map(|g| g.node), Ok(4), || "another new root through 5".into());

@@ -1,9 +1,10 @@
 //! Random lists of calls, from set-up over anything: every outcome held against the plain list, and for smaller tables against the stored trees; after
-//! every call, refused ones too, all numbers of the tally against a full count of the plain list's labels.
+//! every call, refused ones too, all numbers of the tally against a full count of the plain list's labels, and for smaller tables all faces.
 
 use crate::cases;
 use crate::checks::{check, equal};
 use crate::engine::{Grown, Opening, Reply, Table};
+use crate::faces;
 use crate::lent::Lent;
 use crate::plain::Plain;
 use crate::random::Random;
@@ -56,6 +57,28 @@ pub const MIXES: [Mix; 4] = [
 
 const NEVER: usize = usize::MAX;
 
+/// How many calls of a kind were served.
+#[derive(Clone, Copy, Default)]
+struct Served {
+    links: usize,
+    /// New roots through openings.
+    openings: usize,
+    /// Leaves of face 1.
+    backs: usize,
+}
+
+impl Served {
+    fn add(&mut self, more: Served) {
+        self.links += more.links;
+        self.openings += more.openings;
+        self.backs += more.backs;
+    }
+
+    fn say(self) -> String {
+        format!("{} links, {} openings, {} leaves of face 1", self.links, self.openings, self.backs)
+    }
+}
+
 /// One list under way: the engine's table and the models beside it.
 pub struct List {
     pub table: Table,
@@ -68,10 +91,7 @@ pub struct List {
     total: u64,
     /// A node that is added counts once, and once more in each link that moves it.
     joinings: u64,
-    /// Links that were served.
-    links: usize,
-    /// New roots through openings that were served.
-    openings: usize,
+    served: Served,
 }
 
 impl List {
@@ -87,8 +107,7 @@ impl List {
             mix,
             total: 0,
             joinings: 0,
-            links: 0,
-            openings: 0,
+            served: Served::default(),
         }
     }
 
@@ -157,17 +176,18 @@ impl List {
     }
 
     fn add_leaf_under(&mut self, parent: u16, random: &mut Random) {
-        let (scratch, label) = (self.lend(random), List::label(random));
-        let found = self.table.add_leaf(&scratch, parent, label);
-        let expected = self.plain.add_leaf(scratch.part().len(), parent, label);
-        self.grown("leaf", found, expected, random, |stored| stored.add_leaf(parent, label));
+        let (scratch, label, face) = (self.lend(random), List::label(random), faces::any(random));
+        let found = self.table.add_leaf(&scratch, parent, label, face);
+        let expected = self.plain.add_leaf(scratch.part().len(), parent, label, face);
+        self.served.backs += (found.is_ok() && face == 1) as usize;
+        self.grown("leaf", found, expected, random, |stored| stored.add_leaf(parent, label, face));
     }
 
     fn add_root(&mut self, random: &mut Random) {
         let (scratch, x, opening) = (self.lend(random), self.root(random), Opening::any(List::label(random), random));
         let found = self.table.add_root(&scratch, x, opening);
         let expected = self.plain.add_root(scratch.part().len(), x, opening.label());
-        self.openings += (found.is_ok() && opening.label().is_some()) as usize;
+        self.served.openings += (found.is_ok() && opening.label().is_some()) as usize;
         self.grown(&format!("new root over {x} with {opening:?}"), found, expected, random, |stored| stored.add_root(x, opening.label()));
     }
 
@@ -205,7 +225,7 @@ impl List {
         equal(found.map(|_| ()), expected.map(|_| ()), || self.describe(&format!("link {x} {v}")));
         self.tallied("link");
         let (Ok(linked), Ok(joined)) = (found, expected) else { return };
-        self.links += 1;
+        self.served.links += 1;
         if let Some(stored) = &mut self.stored {
             let expected = stored.link(x, v, label);
             equal((linked, joined), expected, || self.describe(&format!("link {x} {v}")));
@@ -228,9 +248,16 @@ impl List {
         }
     }
 
-    /// After each call: the tally is the full count.
+    /// After each call: the tally is the full count, and in smaller tables the faces are those that the calls set.
     fn tallied(&self, call: &str) {
         check(self.table.tally.part() == tally::count(self.plain.all_labels()), || self.describe(&format!("the tally after {call}")));
+        if self.capacity <= 1024 {
+            self.faced(call);
+        }
+    }
+
+    fn faced(&self, call: &str) {
+        check(faces::of(&self.table) == self.plain.all_faces(), || self.describe(&format!("the faces after {call}")));
     }
 
     fn describe(&self, what: &str) -> String {
@@ -269,6 +296,7 @@ impl List {
         let expected = if scratch.part().len() == self.capacity { Ok(1) } else { Err(3) };
         equal(self.table.inspect(&mut scratch), expected, || self.describe("inspection"));
         self.tallied("inspection");
+        self.faced("inspection");
     }
 
     /// Calls that are lent a tally of another length.
@@ -295,7 +323,7 @@ impl List {
 
 /// Small trees: every pair is asked, and the naive rules look at every table.
 pub fn small() -> String {
-    let (mut random, mut links, mut openings) = (Random::new(1), 0, 0);
+    let (mut random, mut served) = (Random::new(1), Served::default());
     for round in 0..480 {
         let capacity = 1 + round % 20;
         let mut list = List::new(capacity, SHAPES[round % 6], MIXES[round / 6 % 4], &mut random);
@@ -309,15 +337,14 @@ pub fn small() -> String {
                 equal(list.table.alike(x, y), list.plain.alike(x, y), || format!("alike {x} {y}"));
             }
         }
-        links += list.links;
-        openings += list.openings;
+        served.add(list.served);
     }
-    format!("480 lists, {links} links, {openings} openings")
+    format!("480 lists, {}", served.say())
 }
 
 /// Lists at capacities between, the stored trees beside them.
 pub fn middle() -> String {
-    let (mut random, mut links, mut openings) = (Random::new(2), 0, 0);
+    let (mut random, mut served) = (Random::new(2), Served::default());
     for (round, capacity) in [40, 64, 100, 127, 128, 129, 200, 256, 500, 1000, 1024].into_iter().enumerate() {
         for shape in SHAPES {
             let mut list = List::new(capacity, shape, MIXES[(round + shape as usize) % 4], &mut random);
@@ -328,11 +355,10 @@ pub fn middle() -> String {
                     list.grow(&mut random)
                 }
             }
-            links += list.links;
-            openings += list.openings;
+            served.add(list.served);
         }
     }
-    format!("66 lists, {links} links, {openings} openings")
+    format!("66 lists, {}", served.say())
 }
 
 /// Large capacities to the last row, new roots, first nodes and links among the leaves, and links once it is full.
@@ -342,7 +368,7 @@ pub fn large() -> String {
         Mix { firsts: 1000, roots: 50, links: 600 },
         Mix { firsts: 40, roots: 100_000, links: 100 },
     ];
-    let (mut random, mut most, mut links, mut openings) = (Random::new(3), 0f64, 0, 0);
+    let (mut random, mut most, mut served) = (Random::new(3), 0f64, Served::default());
     for (round, shape) in SHAPES.into_iter().enumerate() {
         let capacity = [32768, 5000, 32768, 20000, 32768, 32768][round];
         let mut list = List::new(capacity, shape, LARGE[round % 3], &mut random);
@@ -360,10 +386,9 @@ pub fn large() -> String {
         list.inspect(&mut random);
         (0..2000).for_each(|_| list.ask(&mut random));
         most = most.max(list.total as f64 / list.joinings as f64);
-        links += list.links;
-        openings += list.openings;
+        served.add(list.served);
     }
-    format!("6 lists, {links} links, {openings} openings, at most {most:.1} rows renumbered for each joining")
+    format!("6 lists, {}, at most {most:.1} rows renumbered for each joining", served.say())
 }
 
 /// Two trees that fill a table of 32,768 rows, the second linked under the last node of the first.

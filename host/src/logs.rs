@@ -6,6 +6,7 @@ use std::process::{Command, Stdio};
 
 use crate::checks::equal;
 use crate::engine::Grown;
+use crate::faces;
 use crate::plain::Plain;
 use crate::random::Random;
 use crate::stored::Stored;
@@ -17,10 +18,11 @@ const PROGRAM: &str = "target/bin/echo";
 
 const WRITTEN: &str = include_str!("../vectors/logs.txt");
 
-/// A log whose new roots name no opening, one whose do, and what is printed for each.
-const SAMPLES: [(&str, &[u8], &str); 2] = [
+/// A log whose new roots name no opening, one whose do, one whose leaves have faces, and what is printed for each.
+const SAMPLES: [(&str, &[u8], &str); 3] = [
     ("older", include_bytes!("../../docs/samples/older.log"), include_str!("../../docs/samples/older.txt")),
     ("openings", include_bytes!("../../docs/samples/openings.log"), include_str!("../../docs/samples/openings.txt")),
+    ("faces", include_bytes!("../../docs/samples/faces.log"), include_str!("../../docs/samples/faces.txt")),
 ];
 
 /// What document 01's program prints for a log.
@@ -53,9 +55,10 @@ impl Printer {
     fn field(&mut self, ordinal: usize, tag: u8, body: &[u8]) {
         let number = |i: usize| u16::from_be_bytes([body[i], body[i + 1]]);
         match (tag, body.len()) {
-            (1, 4) => {
-                let reply = self.plain.add_leaf(CAPACITY, number(0), number(2));
-                self.grown(ordinal, 'L', reply, |stored| stored.add_leaf(number(0), number(2)));
+            (1, 4) | (5, 5) => {
+                let face = body.get(4).map_or(0, |face| u16::from(*face));
+                let reply = self.plain.add_leaf(CAPACITY, number(0), number(2), face);
+                self.grown(ordinal, 'L', reply, |stored| stored.add_leaf(number(0), number(2), face));
             }
             (2, length @ (0 | 2)) => {
                 let opening = (length == 2).then(|| number(0));
@@ -70,7 +73,7 @@ impl Printer {
                 Err(code) => self.line(ordinal, 'R', &[i32::from(code)]),
                 Ok(value) => self.line(ordinal, 'A', &[i32::from(value)]),
             },
-            (1..=4, _) => self.line(ordinal, 'R', &[7]),
+            (1..=5, _) => self.line(ordinal, 'R', &[7]),
             (9, _) if body.iter().all(|b| *b == 0) => (),
             (9, _) => self.line(ordinal, 'R', &[9]),
             _ => self.line(ordinal, 'R', &[6]),
@@ -106,7 +109,8 @@ pub fn log(fields: usize, random: &mut Random) -> Vec<u8> {
         let label = if random.one_in(16) { [0, 9999, 10000][random.below(3)] } else { 1 + random.below(2) as u16 };
         let kind = if nodes == 0 { 4 } else { random.below(9) };
         let (tag, body) = match kind {
-            0..=3 => (1, [x.to_be_bytes(), label.to_be_bytes()].concat()),
+            0 | 1 => (1, [x.to_be_bytes(), label.to_be_bytes()].concat()),
+            2 | 3 => (5, [&x.to_be_bytes()[..], &label.to_be_bytes(), &[faces::any(random) as u8]].concat()),
             4 if random.one_in(2) => (2, Vec::new()),
             4 => (2, label.to_be_bytes().to_vec()),
             5 | 6 => (3, [x.to_be_bytes(), y.to_be_bytes()].concat()),
@@ -186,6 +190,38 @@ pub fn samples() -> String {
         equal(&*run(bytes), expected, || format!("the sample log {name}"));
     }
     format!("{} logs", SAMPLES.len())
+}
+
+/// A field of a log.
+fn field(tag: u8, body: &[u8]) -> Vec<u8> {
+    let mut bytes = vec![tag, 0, body.len() as u8];
+    bytes.extend(body);
+    bytes
+}
+
+/// Leaves through the program: of every face, of tag 5 with every length to 6, the first field or a later one, with a label that is none or of a full tree.
+pub fn faces() -> String {
+    let (root, pair, mut count) = (field(2, &[]), [field(4, &[0, 1, 0, 2]), field(4, &[0, 1, 0, 3])].concat(), 0);
+    let mut compare = |parts: &[&[u8]]| {
+        compare(&parts.concat());
+        count += 1;
+    };
+    let leaves = |face: u8| [field(1, &[0, 0, 0, 7]), field(5, &[0, 0, 0, 7, face]), field(5, &[0, 0, 0, 7, 0])].concat();
+    for face in 0..=255 {
+        compare(&[&root, &leaves(face), &pair]);
+        compare(&[&leaves(face), &root, &pair]);
+        compare(&[&root, &field(5, &[0, 0, 0, 0, face]), &field(5, &[0, 1, 0, 0, face]), &field(5, &[0, 0, 39, 16, face])]);
+    }
+    for length in 0..7 {
+        let odd = field(5, &[0, 0, 0, 7, 1, 0, 0][..length]);
+        (0..=odd.len()).for_each(|end| compare(&[&root, &leaves(1), &odd[..end]]));
+        compare(&[&root, &odd, &leaves(1), &pair]);
+    }
+    let full = [root, field(5, &[0, 0, 0, 7, 1]).repeat(CAPACITY - 1)].concat();
+    for face in [0, 1, 2, 255] {
+        compare(&[&full, &field(5, &[0, 0, 0, 7, face]), &field(5, &[0, 0, 0, 0, face]), &pair]);
+    }
+    format!("{count} logs")
 }
 
 /// A new root, filler with these bytes of it set, and a leaf.

@@ -7,18 +7,21 @@ mod cases;
 mod checks;
 mod damage;
 mod engine;
+mod faces;
 mod fields;
 mod frame;
 mod growing;
 mod hand;
-mod labels;
 mod lent;
 mod lists;
 mod logs;
+mod marks;
+mod outside;
 mod places;
 mod plain;
 mod powers;
 mod random;
+mod raw;
 mod reading;
 mod refusals;
 mod rules;
@@ -31,13 +34,17 @@ mod vectors;
 use std::process::ExitCode;
 
 /// A group of tests, and what it says of itself beside its counts.
-const GROUPS: [(&str, fn() -> String); 29] = [
+const GROUPS: [(&str, fn() -> String); 37] = [
     ("capacities 0, 1, 32,768 and 32,769", cases::capacities),
     ("parts that do not fit", cases::misfits),
     ("answers of another length", cases::answers),
-    ("labels and the last node", cases::limits),
+    ("labels, faces and the last node", cases::limits),
     ("several trees by hand", hand::cases),
     ("openings by hand", hand::openings),
+    ("faces by hand", faces::cases),
+    ("every set of a leaf's refusals", faces::refusals),
+    ("lists of calls with faces and without", faces::without),
+    ("every face of every row inspected", faces::inspected),
     ("written lists of calls", vectors::lists),
     ("lists of calls at capacities to 20", lists::small),
     ("lists of calls at capacities to 1,024", lists::middle),
@@ -46,20 +53,24 @@ const GROUPS: [(&str, fn() -> String); 29] = [
     ("what stays as it was, at capacities to 1,024", frame::lists),
     ("what stays as it was, at capacities to 32,768", frame::large),
     ("what stays as it was of tables that no list of calls makes", frame::unreachable),
+    ("what stays as it was of tables with odd faces", frame::odd_faces),
     ("damaged tables", damage::tables),
     ("tables that no list of calls makes", damage::unreachable),
     ("good tables by the naive reading", refusals::undamaged),
     ("which rows are read of damaged tables", refusals::damage),
     ("byte trees that do not fit", trees::misfits),
     ("openings of a byte tree by hand", trees::openings),
+    ("faces of a byte tree by hand", trees::faces),
     ("lists of calls on byte trees", trees::lists),
     ("damaged byte trees", trees::damaged),
     ("the log reader at every place", fields::places),
     ("the log reader on filler", fields::filler),
     ("the log reader on new roots", fields::roots),
+    ("the log reader on leaves", fields::leaves),
     ("written logs", logs::vectors),
     ("sample logs", logs::samples),
     ("filler through the log program", logs::filler),
+    ("faces through the log program", logs::faces),
     ("good and damaged logs", logs::logs),
 ];
 

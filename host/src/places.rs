@@ -1,7 +1,8 @@
 //! Good tables damaged in a few places, with numbers that matter there: none, the count and its neighbours, other rows, the limits of 01 and what leads to
 //! them or just past them.
 
-use crate::engine::{Table, DEPTH, ENTRIES, FIELDS, LABEL, NEXT_FREE, NONE, NUMBERS, SET_SIZE, SIZE, START, TREE};
+use crate::engine::{Table, DEPTH, ENTRIES, FACE, FIELDS, LABEL, NEXT_FREE, NONE, NUMBERS, SET_SIZE, SIZE, START, TREE};
+use crate::faces::ODD;
 use crate::lent::Lent;
 use crate::random::Random;
 use crate::reading::LIMIT;
@@ -23,13 +24,14 @@ fn link(old: u16, count: u16, other: u16, random: &mut Random) -> u16 {
 }
 
 fn change_field(t: &mut Table, v: usize, other: u16, random: &mut Random) {
-    let (count, k, level) = (t.count, random.below(FIELDS - 1), t.levels.part()[v]);
+    let (count, k, level) = (t.count, random.below(FIELDS), t.levels.part()[v]);
     let field = &mut t.fields.part_mut()[FIELDS * v + k];
     let (up, down) = (field.wrapping_add(1), field.wrapping_sub(1));
     *field = match k {
         SIZE | SET_SIZE => [0, 1, up, down, up, down, count, count.wrapping_add(1), NONE][random.below(9)],
         DEPTH => [0, up, down, NONE, level.unsigned_abs() as u16][random.below(5)],
         LABEL => [0, up, down, NONE][random.below(4)],
+        FACE => [*field ^ 1, *field ^ 1, ODD[random.below(4)]][random.below(3)],
         _ => link(*field, count, other, random),
     }
 }
@@ -83,12 +85,13 @@ fn change_entry(t: &mut Table, v: usize, other: u16, random: &mut Random) {
     }
 }
 
-/// Two rows linked to each other, often as parents, with one label and level.
+/// Two rows linked to each other, often as parents, with one label, face and level.
 fn change_loop(t: &mut Table, v: usize, other: u16, random: &mut Random) {
     let (k, w) = (random.below(9).saturating_sub(3), other as usize);
     let fields = t.fields.part_mut();
     (fields[FIELDS * v + k], fields[FIELDS * w + k]) = (other, v as u16);
     fields[FIELDS * w + LABEL] = fields[FIELDS * v + LABEL];
+    fields[FIELDS * w + FACE] = fields[FIELDS * v + FACE];
     t.levels.part_mut()[w] = t.levels.part()[v];
 }
 

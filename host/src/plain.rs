@@ -1,4 +1,4 @@
-//! The plain list of documents 01 and 02: each node's parent and label, a root's parent being none; answers by walking from parent to parent.
+//! The plain list of documents 01 and 02: each node's parent, label and face, a root's parent being none; answers by walking from parent to parent.
 
 use crate::engine::{Reply, NONE};
 
@@ -7,20 +7,21 @@ pub struct Plain {
     capacity: usize,
     parent: Vec<u16>,
     label: Vec<u16>,
+    face: Vec<u16>,
 }
 
 impl Plain {
     pub fn new(capacity: usize) -> Plain {
-        Plain { capacity, parent: Vec::new(), label: Vec::new() }
+        Plain { capacity, parent: Vec::new(), label: Vec::new(), face: Vec::new() }
     }
 
     /// Plain trees as they are, to ask.
-    pub fn of(capacity: usize, parent: Vec<u16>, label: Vec<u16>) -> Plain {
-        Plain { capacity, parent, label }
+    pub fn of(capacity: usize, parent: Vec<u16>, label: Vec<u16>, face: Vec<u16>) -> Plain {
+        Plain { capacity, parent, label, face }
     }
 
     pub fn same_trees(&self, other: &Plain) -> bool {
-        self.parent == other.parent && self.label == other.label
+        self.parent == other.parent && self.label == other.label && self.face == other.face
     }
 
     pub fn count(&self) -> usize {
@@ -30,6 +31,11 @@ impl Plain {
     /// The label of every node.
     pub fn all_labels(&self) -> &[u16] {
         &self.label
+    }
+
+    /// The face of every node.
+    pub fn all_faces(&self) -> &[u16] {
+        &self.face
     }
 
     pub fn is_root(&self, x: u16) -> bool {
@@ -92,34 +98,44 @@ impl Plain {
         }
     }
 
+    fn has_face(face: u16) -> Reply<()> {
+        if face <= 1 {
+            Ok(())
+        } else {
+            Err(13)
+        }
+    }
+
     /// An opening that is named is a label.
     fn has_opening(opening: Option<u16>) -> Reply<()> {
         opening.map_or(Ok(()), Plain::has_label)
     }
 
-    /// A node more: its parent and label.
-    fn add(&mut self, parent: u16, label: u16) -> Reply<u16> {
+    /// A node more: its parent, label and face.
+    fn add(&mut self, parent: u16, label: u16, face: u16) -> Reply<u16> {
         if self.count() == self.capacity {
             return Err(2);
         }
         self.parent.push(parent);
         self.label.push(label);
+        self.face.push(face);
         Ok(self.count() as u16 - 1)
     }
 
     pub fn add_first(&mut self, scratch: usize) -> Reply<u16> {
         self.fits(scratch)?;
-        self.add(NONE, 0)
+        self.add(NONE, 0, 0)
     }
 
-    pub fn add_leaf(&mut self, scratch: usize, parent: u16, label: u16) -> Reply<u16> {
+    pub fn add_leaf(&mut self, scratch: usize, parent: u16, label: u16, face: u16) -> Reply<u16> {
         self.fits(scratch)?;
         self.knows(&[parent])?;
         Plain::has_label(label)?;
-        self.add(parent, label)
+        Plain::has_face(face)?;
+        self.add(parent, label, face)
     }
 
-    /// A new root over x, which takes the opening that is named.
+    /// A new root over x, which takes the opening that is named, in front.
     pub fn add_root(&mut self, scratch: usize, x: u16, opening: Option<u16>) -> Reply<u16> {
         self.fits(scratch)?;
         self.knows(&[x])?;
@@ -127,9 +143,11 @@ impl Plain {
         if !self.is_root(x) {
             return Err(10);
         }
-        let node = self.add(NONE, 0)?;
+        let node = self.add(NONE, 0, 0)?;
         self.parent[x as usize] = node;
-        self.label[x as usize] = opening.unwrap_or(self.label[x as usize]);
+        if let Some(opening) = opening {
+            (self.label[x as usize], self.face[x as usize]) = (opening, 0);
+        }
         Ok(node)
     }
 
@@ -143,7 +161,7 @@ impl Plain {
         self.add_first(scratch)
     }
 
-    /// The tree of root x under v; how many nodes joined.
+    /// The tree of root x under v, x in front; how many nodes joined.
     pub fn link(&mut self, scratch: usize, x: u16, v: u16, label: u16) -> Reply<usize> {
         self.fits(scratch)?;
         self.knows(&[x, v])?;
@@ -156,7 +174,7 @@ impl Plain {
         }
         let joined = self.size(x);
         self.parent[x as usize] = v;
-        self.label[x as usize] = label;
+        (self.label[x as usize], self.face[x as usize]) = (label, 0);
         Ok(joined)
     }
 
@@ -179,17 +197,17 @@ impl Plain {
         Ok([nca as i32, to_x as i32, to_y as i32, at_x as i32, at_y as i32, self.label[nca as usize] as i32])
     }
 
-    /// The labels from the root's child down to a node.
-    fn labels(&self, x: u16) -> Vec<u16> {
-        let mut labels: Vec<u16> = self.line(x).iter().map(|v| self.label[*v as usize]).collect();
-        labels.pop();
-        labels.reverse();
-        labels
+    /// The labels and faces from the root's child down to a node.
+    fn marks(&self, x: u16) -> Vec<(u16, u16)> {
+        let mut marks: Vec<(u16, u16)> = self.line(x).iter().map(|v| (self.label[*v as usize], self.face[*v as usize])).collect();
+        marks.pop();
+        marks.reverse();
+        marks
     }
 
     pub fn alike(&self, x: u16, y: u16) -> Reply<u16> {
         self.knows(&[x, y])?;
         self.are_kindred(x, y)?;
-        Ok((self.labels(x) == self.labels(y)) as u16)
+        Ok((self.marks(x) == self.marks(y)) as u16)
     }
 }

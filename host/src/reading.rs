@@ -5,8 +5,8 @@
 use std::collections::BTreeSet;
 
 use crate::engine::{
-    Reply, Table, DEPTH, ENTRIES, FIELDS, FIRST, LABEL, LAST, NEXT, NEXT_FREE, NONE, NUMBERS, PARENT, PATH, ROOT, SET_SIZE, SIZE, START,
-    TREE, UPPER,
+    Reply, Table, DEPTH, ENTRIES, FACE, FIELDS, FIRST, LABEL, LAST, NEXT, NEXT_FREE, NONE, NUMBERS, PARENT, PATH, ROOT, SET_SIZE, SIZE,
+    START, TREE, UPPER,
 };
 
 pub const LIMIT: u128 = 5 << 60;
@@ -62,6 +62,7 @@ pub struct Row {
     pub set_size: u128,
     pub depth: i64,
     pub label: u16,
+    pub face: u16,
     pub start: u128,
     pub next_free: u128,
 }
@@ -214,6 +215,7 @@ impl Reading<'_> {
             set_size: self.size_at(v, SET_SIZE, Cause::SetSize)?,
             depth: i64::from(self.field(v, DEPTH)),
             label: self.field(v, LABEL),
+            face: self.field(v, FACE),
             start: self.number_at(v, START),
             next_free: self.number_at(v, NEXT_FREE),
         };

@@ -5,9 +5,10 @@ use std::collections::BTreeMap;
 
 use crate::checks::{check, equal};
 use crate::engine::{Grown, Opening, Reply, Table, ENTRIES, FIELDS, NONE, NUMBERS, TREE};
-use crate::labels::Labels;
+use crate::faces;
 use crate::lent::Lent;
 use crate::lists::{List, MIXES, SHAPES};
+use crate::marks::Marks;
 use crate::places::damaged;
 use crate::random::Random;
 use crate::reading::{Cause, Reading};
@@ -25,7 +26,7 @@ const KINDS: [(&str, &[u16]); 8] = [
     ("question", &[0, 1, 3, 4, 12]),
     ("alike", &[0, 1, 3, 4, 12]),
     ("first node", &[0, 2, 3, 4]),
-    ("leaf", &[0, 1, 2, 3, 4, 5]),
+    ("leaf", &[0, 1, 2, 3, 4, 5, 13]),
     ("new root", &[0, 1, 2, 3, 4, 10]),
     ("new root of the first tree", &[0, 2, 4]),
     ("new root through an opening", &[0, 1, 2, 3, 4, 5, 10]),
@@ -37,7 +38,7 @@ enum Call {
     Question(u16, u16),
     Alike(u16, u16),
     First,
-    Leaf(u16, u16),
+    Leaf(u16, u16, u16),
     Root(u16, Opening),
     RootOfFirstTree(Opening),
 }
@@ -62,19 +63,19 @@ impl Call {
         KINDS[place].0
     }
 
-    /// What the engine says; the table stays as it is. Document 01's new root has only the form of bytes. A growth that is served leaves the labels and the
-    /// tally that the rules give.
+    /// What the engine says; the table stays as it is. Document 01's new root has only the form of bytes. A growth that is served leaves the labels, the
+    /// faces and the tally that the rules give.
     fn found(self, before: &Table, scratch: &Lent<u16>) -> Reply<Values> {
         let mut table = before.clone();
-        let (labels, found) = match self {
+        let (marks, found) = match self {
             Call::Question(x, y) => return table.query(x, y).map(Vec::from),
             Call::Alike(x, y) => return table.alike(x, y).map(|same| vec![same.into()]),
             Call::RootOfFirstTree(opening) => return trees::add_root_to(&table, opening).map(grown),
-            Call::First => (Labels::of(0), table.add_first(scratch)),
-            Call::Leaf(parent, label) => (Labels::of(label), table.add_leaf(scratch, parent, label)),
-            Call::Root(x, opening) => (Labels::over(x, opening), table.add_root(scratch, x, opening)),
+            Call::First => (Marks::FIRST, table.add_first(scratch)),
+            Call::Leaf(parent, label, face) => (Marks::leaf(label, face), table.add_leaf(scratch, parent, label, face)),
+            Call::Root(x, opening) => (Marks::over(x, opening), table.add_root(scratch, x, opening)),
         };
-        check(found.is_err() || labels.are_left(before, &table), || format!("labels and tally after {self:?}"));
+        check(found.is_err() || marks.are_left(before, &table), || format!("labels, faces and tally after {self:?}"));
         found.map(grown)
     }
 
@@ -84,7 +85,7 @@ impl Call {
             Call::Question(x, y) => reading.question(x, y).map(Vec::from),
             Call::Alike(x, y) => reading.alike(x, y).map(|same| vec![same.into()]),
             Call::First => reading.add_first(scratch).map(grown),
-            Call::Leaf(parent, label) => reading.add_leaf(scratch, parent, label).map(grown),
+            Call::Leaf(parent, label, face) => reading.add_leaf(scratch, parent, label, face).map(grown),
             Call::Root(x, opening) => reading.add_root(scratch, x, opening.label()).map(grown),
             Call::RootOfFirstTree(opening) => reading.add_root_first_tree(scratch, opening.label()).map(grown),
         }
@@ -170,7 +171,7 @@ fn calls(table: &Table, random: &mut Random) -> Vec<Call> {
         calls.push(Call::Question(x, other(table, x, random.one_in(4), random)));
     }
     for _ in 0..2 {
-        calls.push(Call::Leaf(node(table.count, random), label(random)));
+        calls.push(Call::Leaf(node(table.count, random), label(random), faces::any(random)));
     }
     let x = node(table.count, random);
     calls.push(Call::Alike(x, other(table, x, !random.one_in(4), random)));
@@ -261,8 +262,10 @@ pub fn undamaged() -> String {
             equal(over, plain.clone().add_root_first_tree(capacity, opening), || format!("new root of the first tree, {opening:?}"));
         }
         for x in 0..=table.count {
-            let leaf = node(Reading::of(table).add_leaf(capacity, x, 1));
-            equal(leaf, plain.clone().add_leaf(capacity, x, 1), || format!("leaf under {x}"));
+            for (label, face) in [(1, 0), (1, 1), (1, 2), (0, 2)] {
+                let leaf = node(Reading::of(table).add_leaf(capacity, x, label, face));
+                equal(leaf, plain.clone().add_leaf(capacity, x, label, face), || format!("leaf {label} {face} under {x}"));
+            }
             for opening in OPENINGS {
                 let over = node(Reading::of(table).add_root(capacity, x, opening));
                 equal(over, plain.clone().add_root(capacity, x, opening), || format!("new root over {x}, {opening:?}"));

@@ -23,6 +23,7 @@ struct Rows {
     start: Vec<u128>,
     next_free: Vec<u128>,
     root: Vec<u16>,
+    face: Vec<u16>,
 }
 
 impl Rows {
@@ -46,6 +47,7 @@ impl Rows {
             start: number(0),
             next_free: number(1),
             root: field(10),
+            face: field(11),
         }
     }
 
@@ -110,10 +112,11 @@ impl Rows {
         (0..n).all(listed) && self.first_rows().all(|f| self.next[f] == NONE)
     }
 
-    /// Rule 1, roots, levels and labels.
+    /// Rule 1, roots, levels, labels and faces.
     fn is_recorded(&self) -> bool {
         let n = self.count();
-        if !self.first_rows().all(|f| (self.root[f] as usize) < n && self.label[self.root[f] as usize] == 0) {
+        let is_bare = |root: usize| root < n && self.label[root] == 0 && self.face[root] == 0;
+        if !self.first_rows().all(|f| is_bare(self.root[f] as usize)) {
             return false;
         }
         let lines = self.root_lines();
@@ -126,7 +129,7 @@ impl Rows {
                 NONE => 0,
                 p => i64::from(self.level[p as usize]) + if on_line.contains(&v) { -1 } else { 1 },
             };
-            i64::from(self.level[v]) == level && self.label[v] <= 9999
+            i64::from(self.level[v]) == level && self.label[v] <= 9999 && self.face[v] <= 1
         })
     }
 
@@ -220,5 +223,5 @@ pub fn plain(t: &Table) -> Plain {
         parent[line[0]] = NONE;
         line.windows(2).for_each(|pair| parent[pair[1]] = pair[0] as u16);
     }
-    Plain::of(t.levels.part().len(), parent, rows.label.clone())
+    Plain::of(t.levels.part().len(), parent, rows.label.clone(), rows.face.clone())
 }

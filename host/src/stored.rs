@@ -14,6 +14,7 @@ pub struct Row {
     pub set_size: u64,
     pub depth: u16,
     pub label: u16,
+    pub face: u16,
     /// The root of the tree, in its first row; else none.
     pub root: u16,
     pub level: i32,
@@ -43,6 +44,7 @@ fn lone() -> Row {
         set_size: 0,
         depth: 0,
         label: 0,
+        face: 0,
         root: NONE,
         level: 0,
         start: 0,
@@ -93,21 +95,24 @@ impl Stored {
     pub fn add_first(&mut self) -> Grown {
         let node = self.rows.len() as u16;
         self.rows.push(Row { root: node, ..lone() });
-        self.join(node, NONE, 0, 0)
+        self.join(node, NONE, 0)
     }
 
-    pub fn add_leaf(&mut self, parent: u16, label: u16) -> Grown {
+    pub fn add_leaf(&mut self, parent: u16, label: u16, face: u16) -> Grown {
         let level = self.row(parent).level + 1;
-        self.grow(parent, label, level)
+        self.grow(parent, Row { label, face, ..lone() }, level)
     }
 
-    /// A new root over x, stored as a leaf under it; x takes the opening that is named.
+    /// A new root over x, stored as a leaf under it; x takes the opening that is named, in front.
     pub fn add_root(&mut self, x: u16, opening: Option<u16>) -> Grown {
         let level = self.row(x).level - 1;
         let first = self.first_row(x);
-        let grown = self.grow(x, 0, level);
+        let grown = self.grow(x, lone(), level);
         self.rows[first as usize].root = grown.node;
-        self.rows[x as usize].label = opening.unwrap_or(self.row(x).label);
+        if let Some(label) = opening {
+            let old = &mut self.rows[x as usize];
+            (old.label, old.face) = (label, 0);
+        }
         grown
     }
 
@@ -120,14 +125,15 @@ impl Stored {
         }
     }
 
-    fn grow(&mut self, parent: u16, label: u16, level: i32) -> Grown {
+    /// A row that stands alone, as the next leaf under a parent.
+    fn grow(&mut self, parent: u16, row: Row, level: i32) -> Grown {
         let node = self.rows.len() as u16;
-        self.rows.push(lone());
-        self.join(node, parent, label, level)
+        self.rows.push(row);
+        self.join(node, parent, level)
     }
 
     /// The tree of root x under v: its rows stand alone, then join level by level below x, by rising number within a level, each under its plain parent.
-    /// What it answers, and how many rows joined.
+    /// They keep labels and faces, but x, which takes the label, in front. What it answers, and how many rows joined.
     pub fn link(&mut self, x: u16, v: u16, label: u16) -> (Linked, usize) {
         let receiving = self.first_row(v);
         let line = self.line(x);
@@ -148,25 +154,25 @@ impl Stored {
         let mut order: Vec<(usize, u16)> = rows.into_iter().map(|w| (depth(w), w)).collect();
         order.sort();
         for (_, w) in &order {
-            let label = if *w == x { label } else { self.row(*w).label };
-            self.rows[*w as usize] = Row { label, ..lone() };
+            let (label, face) = if *w == x { (label, 0) } else { (self.row(*w).label, self.row(*w).face) };
+            self.rows[*w as usize] = Row { label, face, ..lone() };
         }
         let (mut rows, joined) = (0, order.len());
         for (_, w) in order {
             let above = parent[w as usize];
-            rows += u32::from(self.join(w, above, self.row(w).label, self.row(above).level + 1).rows);
+            rows += u32::from(self.join(w, above, self.row(above).level + 1).rows);
         }
         (Linked { rows, head: receiving.into() }, joined)
     }
 
     /// A row that stands alone becomes a leaf; the highest row of its chain that has grown by a fifth heads the renumbering.
-    fn join(&mut self, node: u16, parent: u16, label: u16, level: i32) -> Grown {
+    fn join(&mut self, node: u16, parent: u16, level: i32) -> Grown {
         let (depth, upper) = match parent {
             NONE => (0, NONE),
             p => (self.row(p).depth + 1, if self.is_apex(p) { p } else { self.row(p).upper }),
         };
         let row = &mut self.rows[node as usize];
-        (row.parent, row.upper, row.depth, row.label, row.level) = (parent, upper, depth, label, level);
+        (row.parent, row.upper, row.depth, row.level) = (parent, upper, depth, level);
         if parent != NONE {
             self.rows[parent as usize].children.push(node);
         }
@@ -285,8 +291,20 @@ impl Stored {
                 Some(r) => {
                     let first = r.children.first().copied().unwrap_or(NONE);
                     let last = r.children.last().copied().unwrap_or(NONE);
-                    f == [r.parent, first, last, next[x], r.upper, r.path, r.size as u16, r.set_size as u16, r.depth, r.label, r.root, 0]
-                        && n == [r.start, r.next_free]
+                    f == [
+                        r.parent,
+                        first,
+                        last,
+                        next[x],
+                        r.upper,
+                        r.path,
+                        r.size as u16,
+                        r.set_size as u16,
+                        r.depth,
+                        r.label,
+                        r.root,
+                        r.face,
+                    ] && n == [r.start, r.next_free]
                         && level == r.level
                         && a == r.entries
                 }

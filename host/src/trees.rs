@@ -2,9 +2,10 @@
 //! names no root: it goes over the first tree's.
 
 use crate::checks::{check, equal};
-use crate::engine::{Grown, Opening, Reply, Table, FIELDS, LABEL, NONE};
-use crate::labels::Labels;
+use crate::engine::{Grown, Opening, Reply, Table, NONE, ROOT};
+use crate::faces;
 use crate::lent::Lent;
+use crate::marks::{self, Marks};
 use crate::random::Random;
 use crate::reading::Reading;
 use crate::tally::{self, LABELS};
@@ -22,7 +23,7 @@ const DAMAGED: usize = 10_000;
 mod raw {
     extern "C" {
         pub fn nca_set_up(tree: *mut u8, tree_len: usize) -> u16;
-        pub fn nca_add_leaf(tree: *mut u8, tree_len: usize, parent: u16, label: u16, out: *mut u8, out_len: usize) -> u16;
+        pub fn nca_add_leaf(tree: *mut u8, tree_len: usize, parent: u16, label: u16, face: u16, out: *mut u8, out_len: usize) -> u16;
         pub fn nca_add_root(tree: *mut u8, tree_len: usize, named: u16, opening: u16, out: *mut u8, out_len: usize) -> u16;
         pub fn nca_query(tree: *const u8, tree_len: usize, x: u16, y: u16, out: *mut u8, out_len: usize) -> u16;
     }
@@ -86,10 +87,10 @@ impl Tree {
         }
     }
 
-    fn add_leaf(&mut self, parent: u16, label: u16, len: usize) -> Reply<Grown> {
+    fn add_leaf(&mut self, parent: u16, label: u16, face: u16, len: usize) -> Reply<Grown> {
         let (mut out, tree) = (Lent::<u8>::marked(len), self.bytes.part_mut());
         let o = out.part_mut();
-        let code = unsafe { raw::nca_add_leaf(tree.as_mut_ptr(), tree.len(), parent, label, o.as_mut_ptr(), o.len()) };
+        let code = unsafe { raw::nca_add_leaf(tree.as_mut_ptr(), tree.len(), parent, label, face, o.as_mut_ptr(), o.len()) };
         self.after("leaf", code, &out);
         if code == 0 {
             Ok(grown(out.part()))
@@ -133,11 +134,11 @@ fn grown(out: &[u8]) -> Grown {
 }
 
 /// What a new root over the first tree's gives; a first node has no use for an opening.
-fn labels(table: &Table, opening: Opening) -> Labels {
+fn given(table: &Table, opening: Opening) -> Marks {
     if table.count == 0 {
-        Labels::of(0)
+        Marks::FIRST
     } else {
-        Labels::over(table.root_of(0), opening)
+        Marks::over(table.root_of(0), opening)
     }
 }
 
@@ -147,8 +148,8 @@ pub fn add_root_to(table: &Table, opening: Opening) -> Reply<Grown> {
     let mut tree = Tree::of(&bytes);
     let reply = tree.add_root(opening, GROWN);
     check(reply.is_ok() || tree.bytes.part() == bytes, || format!("new root on bytes gave {reply:?} and stored"));
-    let left = |after: Table| labels(table, opening).are_left(table, &after);
-    check(reply.is_err() || left(decode(tree.bytes.part())), || "labels and tally after a new root on bytes".into());
+    let left = |after: Table| given(table, opening).are_left(table, &after);
+    check(reply.is_err() || left(decode(tree.bytes.part())), || "labels, faces and tally after a new root on bytes".into());
     reply
 }
 
@@ -187,7 +188,8 @@ fn step(tree: &mut Tree, random: &mut Random) {
         };
         (found, expected)
     } else {
-        (tree.add_leaf(parent, label, GROWN), table.add_leaf(&scratch, parent, label))
+        let face = faces::any(random);
+        (tree.add_leaf(parent, label, face, GROWN), table.add_leaf(&scratch, parent, label, face))
     };
     equal(found, expected, || format!("growth of a byte tree of {count} nodes"));
     check(tree.bytes.part() == encode(&table), || format!("a byte tree after growth to {count} nodes"));
@@ -251,7 +253,7 @@ pub fn misfits() -> String {
         let mut tree = Tree::of(&vec![0; len]);
         let what = || format!("a byte tree of {len} bytes");
         equal(tree.set_up(), Err(3), what);
-        equal(tree.add_leaf(0, 1, GROWN), Err(3), what);
+        (0..3).for_each(|face| equal(tree.add_leaf(0, 1, face, GROWN), Err(3), what));
         equal(tree.add_root(Opening::NONE, GROWN), Err(3), what);
         equal(tree.add_root(Opening::of(0), GROWN), Err(3), what);
         equal(tree.query(0, 0, 16), Err(3), what);
@@ -261,7 +263,7 @@ pub fn misfits() -> String {
     equal(tree.set_up(), Ok(()), || "set-up of a byte tree".into());
     let before = tree.bytes.part().to_vec();
     for len in [0, 4, 5, 7, 15, 17] {
-        equal(tree.add_leaf(0, 1, len), Err(3), || format!("leaf with an answer of {len} bytes"));
+        (0..3).for_each(|face| equal(tree.add_leaf(0, 1, face, len), Err(3), || format!("leaf with an answer of {len} bytes")));
         equal(tree.add_root(Opening::NONE, len), Err(3), || format!("new root with an answer of {len} bytes"));
         equal(tree.add_root(Opening::of(0), len), Err(3), || format!("new root through 0 with an answer of {len} bytes"));
         equal(tree.query(0, 0, len), Err(3), || format!("question with an answer of {len} bytes"));
@@ -270,11 +272,16 @@ pub fn misfits() -> String {
     "8 trees".into()
 }
 
-/// The labels of a tree's rows in use, and whether its tally is the full count of them.
-fn marks(tree: &Tree) -> (Vec<u16>, bool) {
+/// The labels and faces of a tree's rows in use.
+fn marks(tree: &Tree) -> Vec<(u16, u16)> {
     let table = decode(tree.bytes.part());
-    let labels: Vec<u16> = table.fields.part().chunks(FIELDS).take(table.count as usize).map(|row| row[LABEL]).collect();
-    let counted = table.tally.part() == tally::count(&labels);
+    marks::column(&table)[..table.count as usize].to_vec()
+}
+
+/// The labels of a tree's rows in use, and whether its tally is the full count of them.
+fn labels(tree: &Tree) -> (Vec<u16>, bool) {
+    let labels: Vec<u16> = marks(tree).into_iter().map(|(label, _)| label).collect();
+    let counted = decode(tree.bytes.part()).tally.part() == tally::count(&labels);
     (labels, counted)
 }
 
@@ -286,14 +293,14 @@ pub fn openings() -> String {
         equal(tree.add_root(Opening::of(number), GROWN), Err(5), || format!("the first node of a byte tree through {number}"));
     }
     equal(tree.add_root(Opening::of(9999), GROWN), Ok(Grown { node: 0, rows: 1, head: 0 }), || "a first node through 9,999".into());
-    equal(marks(&tree), (vec![0], true), || "a first node has no use for an opening".into());
+    equal(labels(&tree), (vec![0], true), || "a first node has no use for an opening".into());
     equal(tree.add_root(Opening::of(12), GROWN), Ok(Grown { node: 1, rows: 2, head: 0 }), || "a new root through 12".into());
-    equal(marks(&tree), (vec![12, 0], true), || "the opening at the old root".into());
+    equal(labels(&tree), (vec![12, 0], true), || "the opening at the old root".into());
     equal(tree.add_root(Opening { named: 0, number: 65535 }, GROWN).map(|g| g.node), Ok(2), || "a new root that names none".into());
     equal(tree.add_root(Opening { named: 256, number: 9999 }, GROWN).map(|g| g.node), Ok(3), || "a new root through 9,999".into());
-    equal(marks(&tree), (vec![12, 0, 9999, 0], true), || "an old root that kept 0, and one that did not".into());
+    equal(labels(&tree), (vec![12, 0, 9999, 0], true), || "an old root that kept 0, and one that did not".into());
     equal(tree.query(0, 2, 16), Ok([2, 1, 2, 2, 0, 9999]), || "a question that an old root answers".into());
-    (4..CAPACITY as u16).for_each(|x| equal(tree.add_leaf(0, 1, GROWN).map(|g| g.node), Ok(x), || "a leaf".into()));
+    (4..CAPACITY as u16).for_each(|x| equal(tree.add_leaf(0, 1, 0, GROWN).map(|g| g.node), Ok(x), || "a leaf".into()));
     let before = tree.bytes.part().to_vec();
     for (opening, refusal) in [(Opening::NONE, 2), (Opening::of(7), 2), (Opening::of(0), 5), (Opening::of(10000), 5)] {
         equal(tree.add_root(opening, GROWN), Err(refusal), || format!("{opening:?} on a full byte tree"));
@@ -301,4 +308,48 @@ pub fn openings() -> String {
     equal(tree.add_root(Opening { named: 0, number: 10000 }, GROWN), Err(2), || "a number that is not looked at".into());
     check(tree.bytes.part() == before, || "a refused opening was stored".into());
     "1 tree".into()
+}
+
+/// A tree with a first node and a leaf of each face; and how many leaves more.
+fn grown_by(leaves: usize) -> Tree {
+    let mut tree = Tree::of(&vec![0; BYTES]);
+    equal(tree.set_up(), Ok(()), || "set-up of a byte tree".into());
+    equal(tree.add_root(Opening::NONE, GROWN).map(|g| g.node), Ok(0), || "a first node".into());
+    for x in 1..=2 + leaves as u16 {
+        equal(tree.add_leaf(0, 7, (x + 1) % 2, GROWN).map(|g| g.node), Ok(x), || "a leaf".into());
+    }
+    tree
+}
+
+/// Every set of the refusals of a leaf at once, by each face that is none: the first in the order 3, 1, 5, 13, 2, 4 is given, and nothing is stored.
+fn leaf_refusals() {
+    let trees = [grown_by(0), grown_by(CAPACITY - 3)];
+    for (set, face) in (0..64).flat_map(|set| faces::ODD.map(|face| (set, face))) {
+        let at = |refusal: u16| faces::has(set, refusal);
+        let mut tree = Tree { bytes: trees[at(2) as usize].bytes.clone() };
+        if at(4) {
+            tree.bytes.part_mut()[2 + 2 * ROOT] = 200;
+        }
+        let before = tree.bytes.part().to_vec();
+        let (parent, label, face) = (if at(1) { 200 } else { 0 }, if at(5) { 0 } else { 7 }, if at(13) { face } else { 1 });
+        let found = tree.add_leaf(parent, label, face, if at(3) { GROWN - 1 } else { GROWN });
+        equal(found.map(|_| ()), faces::first_of(set), || format!("a leaf {parent} {label} {face} of a byte tree, refusals {set:b}"));
+        check(found.is_ok() || tree.bytes.part() == before, || "a refused leaf of a byte tree was stored".into());
+    }
+}
+
+/// Faces of a byte tree: leaves of both, new roots through an opening and without one, and faces that are none.
+pub fn faces() -> String {
+    let mut tree = grown_by(0);
+    equal(marks(&tree), vec![(0, 0), (7, 0), (7, 1)], || "a leaf of each face".into());
+    equal(tree.add_root(Opening::of(12), GROWN).map(|g| g.node), Ok(3), || "a new root through 12".into());
+    equal(tree.add_root(Opening::NONE, GROWN).map(|g| g.node), Ok(4), || "a new root that names none".into());
+    equal(tree.add_leaf(2, 12, 1, GROWN).map(|g| g.node), Ok(5), || "a leaf of face 1".into());
+    equal(marks(&tree), vec![(12, 0), (7, 0), (7, 1), (0, 0), (0, 0), (12, 1)], || "faces after new roots".into());
+    for face in faces::ODD {
+        equal(tree.add_leaf(0, 1, face, GROWN), Err(13), || format!("a leaf of face {face}"));
+    }
+    equal(marks(&tree).len(), 6, || "nodes after odd faces".into());
+    leaf_refusals();
+    "257 trees".into()
 }

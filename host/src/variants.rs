@@ -1,6 +1,9 @@
-//! Tables that no list of calls makes: the trees of a good table with other labels, paths, set sizes and spans, at the edges of the rules.
+//! Tables that no list of calls makes: the trees of a good table with other labels, faces, paths, set sizes and spans, at the edges of the rules.
 
-use crate::engine::{Table, DEPTH, ENTRIES, FIELDS, FIRST, LABEL, LAST, NEXT, NONE, NUMBERS, PARENT, PATH, ROOT, SET_SIZE, SIZE, UPPER};
+use crate::engine::{
+    Table, DEPTH, ENTRIES, FACE, FIELDS, FIRST, LABEL, LAST, NEXT, NONE, NUMBERS, PARENT, PATH, ROOT, SET_SIZE, SIZE, UPPER,
+};
+use crate::faces::ODD;
 use crate::places;
 use crate::powers::POWERS;
 use crate::random::Random;
@@ -59,6 +62,17 @@ fn choose_labels(t: &mut Table, n: usize, random: &mut Random) {
     t.tally.part_mut().copy_from_slice(&tally);
     if random.one_in(12) {
         places::change_tally(t, random);
+    }
+}
+
+/// Any faces for rows that are not the root of their tree, old roots and linked ones among them; now and then one that is none, or a root's 1.
+fn choose_faces(t: &mut Table, n: usize, random: &mut Random) {
+    for v in (0..n as u16).filter(|v| t.root_of(*v) != *v).collect::<Vec<u16>>() {
+        put(t, v as usize, FACE, random.below(2) as u16);
+    }
+    if random.one_in(12) {
+        let face = if random.one_in(2) { 1 } else { ODD[random.below(4)] };
+        put(t, random.below(n), FACE, face);
     }
 }
 
@@ -146,6 +160,7 @@ pub fn of(table: &Table, random: &mut Random) -> Table {
     if n != 0 {
         link_children(&mut t, n, random);
         choose_labels(&mut t, n, random);
+        choose_faces(&mut t, n, random);
         record_roots(&mut t, n, random);
         lead_paths(&mut t, n, random);
         choose_set_sizes(&mut t, n, random);

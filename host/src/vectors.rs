@@ -34,6 +34,14 @@ fn opening(given: &[i64]) -> Opening {
     }
 }
 
+/// The face of a leaf: behind its parent and label may stand one; else it is in front.
+fn face(given: &[i64]) -> u16 {
+    match given {
+        [_, _, face, _] => *face as u16,
+        _ => 0,
+    }
+}
+
 /// A reply as it is written: R and a refusal, or a letter and values.
 fn written(reply: &str) -> Numbers {
     match reply.strip_prefix("R ") {
@@ -94,8 +102,9 @@ impl List {
                 self.grown(found, |stored| stored.add_first())
             }
             "L" => {
-                let found = self.table.add_leaf(&scratch, arg(0), arg(1));
-                self.grown(found, |stored| stored.add_leaf(arg(0), arg(1)))
+                let face = face(&given);
+                let found = self.table.add_leaf(&scratch, arg(0), arg(1), face);
+                self.grown(found, |stored| stored.add_leaf(arg(0), arg(1), face))
             }
             "T" => {
                 let opening = opening(&given);
@@ -139,10 +148,11 @@ impl List {
         let (row, entries) = (numbers(row), numbers(entries));
         let entries: Vec<u16> = entries.chunks(2).flat_map(|run| vec![run[0] as u16; run[1] as usize]).collect();
         let (x, t) = (self.rows, &self.table);
-        let fields: Vec<u16> = row[..=ROOT].iter().map(|n| *n as u16).collect();
-        let same = t.fields.part()[FIELDS * x..][..=ROOT] == fields
-            && i64::from(t.levels.part()[x]) == row[ROOT + 1]
-            && t.numbers.part()[NUMBERS * x..][..NUMBERS].iter().map(|n| *n as i64).eq(row[ROOT + 2..].iter().copied())
+        let (fields, [level, start, next_free, face @ ..]) = row.split_at(ROOT + 1) else { panic!("row {x} of list {}", self.number) };
+        let fields: Vec<u16> = fields.iter().chain([face.first().unwrap_or(&0)]).map(|n| *n as u16).collect();
+        let same = t.fields.part()[FIELDS * x..][..FIELDS] == fields
+            && i64::from(t.levels.part()[x]) == *level
+            && t.numbers.part()[NUMBERS * x..][..NUMBERS] == [*start as u64, *next_free as u64]
             && t.ancestors.part()[ENTRIES * x..][..ENTRIES] == entries;
         check(same, || format!("row {x} after list {}", self.number));
         self.rows += 1;

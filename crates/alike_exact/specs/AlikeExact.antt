@@ -1,5 +1,6 @@
 -- On a table that passes inspection the alike call on two nodes below the count that have a common ancestor is served, and its outcome is 1 exactly when
--- their lists of labels, by the naive definition on the plain trees that the table records, are equal. On nodes of different trees it is refusal 12.
+-- their lists of labels and their lists of faces, by the naive definition on the plain trees that the table records, are equal. On nodes of different trees it
+-- is refusal 12.
 use mathlib.Core.Path.{_≡_, refl, ap, sym, _∙_}
 use mathlib.Core.Bool.{Bool, true, false}
 use mathlib.Core.Logic.{_≢_}
@@ -7,7 +8,7 @@ use Prim.Native.Nat.{ℕ, zero, suc, _≤_, _<_}
 use native.Mathlib.Decide.{decLt, ℕ-discrete}
 use native.Mathlib.Omega.{arith}
 use lib.IntN.{ℤ, pos, _+ℤ_, _-ℤ_, +ℤ-comm, +ℤ-negℤ-cancel}
-use Rattle.laws.specs.Test.{Says, holds, fails, says-eq, says-true, says-false, says-map, says-eqb}
+use Rattle.laws.specs.Test.{Says, holds, fails, says-eq, says-true, says-false, says-map, says-and, says-eqb, pick}
 use Rattle.tree_laws.specs.Ancestor.{none}
 use Rattle.tree_laws.specs.Nca.{Kindred}
 use Rattle.tree_laws.specs.SizeDepth.{depth-below}
@@ -18,7 +19,7 @@ use Rattle.table.specs.Capacity.{nodeLimit, Fits}
 use Rattle.table.specs.Table.{Table}
 use Rattle.layer.specs.StoredTree.{first}
 use Rattle.table.specs.PlainTree.{plain}
-use Rattle.tree_laws.specs.Answer.{SameLabels}
+use Rattle.tree_laws.specs.Answer.{SameList, Alike as AlikeOver}
 use Rattle.table.specs.Rules.{Rules, numbered}
 use Rattle.layer_laws.specs.Numbered.{InTree, in-tree}
 use Rattle.table_laws.specs.Lines.{root-in}
@@ -33,16 +34,17 @@ use Rattle.query_exact.specs.PlainShape.{plainDepthOf, plain-shape, plain-depth
 use Rattle.query_exact.specs.SoughtExact.{recorded, asked-one, asked-two}
 use Rattle.table.specs.CapacityLaws.{fits-told}
 use Rattle.table.specs.LevelLaws.{says-eqZ}
-use Rattle.alike_exact.specs.LabelLaws.{same-depth, same-itself, same-below, same-above}
+use Rattle.alike_exact.specs.ListLaws.{same-depth, alike-itself, alike-below, alike-above}
 use Rattle.alike_exact.specs.PlainParentExact.{plain-up}
-use Rattle.alike.specs.Walk.{turnAt}
+use Rattle.alike.specs.declared.walk.Turn.the-variants.{Told, On}
+use Rattle.alike.specs.Walk.{markedAlike, turnAt}
 use Rattle.alike.specs.Outcome.{Outcome, compared, refused}
 use Rattle.alike.specs.Alike.{after, walked, served, alike}
 use Rattle.alike.specs.AlikeLaws.{alike-by, alike-unknown-x, alike-unknown-y}
 
--- x and y have equal lists of labels on the plain trees of the table t
+-- x and y have equal lists of labels and of faces on the plain trees of the table t
 abbrev pub Alike : Table → ℕ → ℕ → Type 0
-Alike t x y = SameLabels (plain t) (t .label) x y
+Alike t x y = AlikeOver (plain t) (t .label) (t .face) x y
 
 -- the outcome o is 1 or 0 as x and y are alike or not
 pub record ExactOutcome (t : Table) (x y : ℕ) (o : Outcome) : Type 0 where
@@ -56,6 +58,31 @@ add-unique : (l : ℤ) {m n : ℕ} → l +ℤ pos m ≡ l +ℤ pos n → m ≡ n
 add-unique l {m} {n} e =
     let z : pos m ≡ pos n = sym (+ℤ-negℤ-cancel (pos m) l) ∙ ap (λ (k : ℤ). k -ℤ l) (+ℤ-comm (pos m) l ∙ e ∙ +ℤ-comm l (pos n)) ∙ +ℤ-negℤ-cancel (pos n) l in
     cc
+
+says-marked : (label face : ℕ → ℕ) (x y : ℕ) → Says ((label x ≡ label y) × (face x ≡ face y)) (markedAlike label face x y)
+unfolding markedAlike
+says-marked label face x y = says-and (says-eqb (label x) (label y)) (λ _. says-eqb (face x) (face y))
+
+-- two rows of plain parents: their labels and faces decide, or else the rows above
+module _ {capacity : ℕ} {t : Table} (r : Rules capacity t) (fits : capacity ≤ nodeLimit) where
+  marked-exact : {x y : ℕ} {b : Bool} (on : ℕ → ℕ → Outcome) → x < t .layer .count → y < t .layer .count → plain t x ≢ none → plain t y ≢ none
+      → Says ((t .label x ≡ t .label y) × (t .face x ≡ t .face y)) b → ExactOutcome t (plain t x) (plain t y) (on (plain t x) (plain t y))
+      → ExactOutcome t x y (after (pick b (On (plain t x) (plain t y)) (Told false)) on)
+  marked-exact {x} {y} on l m h k (holds w) o =
+      let tree = plain-shape r fits in
+      record {
+        value = o .value;
+        says = says-map
+            (λ s. alike-below tree (t .label) (t .face) h k record { lastLabel = w .0; lastFace = w .1; above = s })
+            (λ s. alike-above tree (t .label) (t .face) l m h k s .above)
+            (o .says);
+        outcome = o .outcome;
+      }
+  marked-exact {x} {y} on l m h k (fails w) o = record {
+    value = false;
+    says = fails (λ s. let up = alike-above (plain-shape r fits) (t .label) (t .face) l m h k s in w (up .lastLabel, up .lastFace));
+    outcome = refl;
+  }
 
 -- in the tree of f, whose root is its root
 module _ {capacity : ℕ} {t : Table} (r : Rules capacity t) (fits : capacity ≤ nodeLimit) {f : ℕ} where
@@ -88,23 +115,13 @@ module _ {capacity : ℕ} {t : Table} (r : Rules capacity t) (fits : capacity �
         let m = j .inUse in
         rw (node-passes r fits x l, node-passes r fits y m, plain-up r fits exact x i, plain-up r fits exact y j) (elim (ℕ-discrete (plainDepthOf t x) (plainDepthOf t y)) [
           | no d ↦ rw (says-false (says-eqZ (t .level x) (t .level y)) (λ e. d (level-depth i j e)))
-              record { value = false; says = fails (λ s. d (same-depth tree (t .label) l m s)); outcome = refl }
+              record { value = false; says = fails (λ s. d (same-depth tree (t .label) l m (s .labels))); outcome = refl }
           | yes e ↦ rw (says-true (says-eqZ (t .level x) (t .level y)) (depth-level i j e)) (elim (ℕ-discrete x y) [
-            | yes z ↦ rw (says-true (says-eqb x y) z) record { value = true; says = holds (rw z (same-itself tree (t .label) y m)); outcome = refl }
+            | yes z ↦ rw (says-true (says-eqb x y) z) record { value = true; says = holds (rw z (alike-itself tree (t .label) (t .face) y m)); outcome = refl }
             | no d ↦
                 let h = some-parent i j d e in
                 let k = some-parent j i (λ z. d (sym z)) (sym e) in
-                let up = same-above tree (t .label) l m h k in
-                rw (says-false (says-eqb x y) d) (elim (ℕ-discrete (t .label x) (t .label y)) [
-                  | no w ↦ rw (says-false (says-eqb (t .label x) (t .label y)) w) record { value = false; says = fails (λ s. w (up s .last)); outcome = refl }
-                  | yes w ↦
-                      let o = rest h k in
-                      rw (says-true (says-eqb (t .label x) (t .label y)) w) record {
-                        value = o .value;
-                        says = says-map (λ s. same-below tree (t .label) h k record { last = w; above = s }) (λ s. up s .above) (o .says);
-                        outcome = o .outcome;
-                      }
-                ])
+                rw (says-false (says-eqb x y) d) (marked-exact r fits on l m h k (says-marked (t .label) (t .face) x y) (rest h k))
           ])
         ])
 
@@ -146,6 +163,18 @@ alike-other-tree parts state x y f r l m k = other-tree parts state x y f r l m 
 
 -- What follows from it
 
+-- every pair alike is alike by labels (02: "so every pair alike after this change was alike before it")
+pub alike-by-labels : (t : Table) {x y : ℕ} → Alike t x y → SameList (plain t) (t .label) x y
+alike-by-labels t s = s .labels
+
+-- an exact outcome of 1
+told-alike : {t : Table} {x y : ℕ} {o : Outcome} → ExactOutcome t x y o → o ≡ compared true → Alike t x y
+told-alike {t} {x} {y} e h = go (e .says) (sym (e .outcome) ∙ h)
+  where
+    go : {b : Bool} → Says (Alike t x y) b → compared b ≡ compared true → Alike t x y
+    go (holds s) z = s
+    go (fails d) z = absurd (let w : _≡_ {A = ℕ} 0 1 = cc in omega arith)
+
 module _ {c : ℕ} (parts : Parts) (state : State) (f : Fits c parts) (r : Rules c (recorded parts state)) where
   -- whatever test says whether x and y are alike gives the outcome
   pub alike-value : {x y : ℕ} {b : Bool} → x < state .count → y < state .count → Kindred (plain (recorded parts state)) x y
@@ -164,3 +193,20 @@ module _ {c : ℕ} (parts : Parts) (state : State) (f : Fits c parts) (r : Rules
       ]
     ]
   ]
+
+  -- the outcome is 1 only on nodes that are alike, whatever the nodes
+  pub alike-told : (x y : ℕ) → alike parts state x y ≡ compared true → Alike (recorded parts state) x y
+  alike-told x y e = elim (decLt x (state .count)) [
+    | no i ↦ let u = alike-unknown-x parts state x y (fits-told f) (omega arith) in absurd (let z : _≡_ {A = ℕ} 0 1 = cc in omega arith)
+    | yes l ↦ elim (decLt y (state .count)) [
+      | no j ↦ let u = alike-unknown-y parts state x y (fits-told f) l (omega arith) in absurd (let z : _≡_ {A = ℕ} 0 1 = cc in omega arith)
+      | yes m ↦ elim (ℕ-discrete (first (recorded parts state .layer) x) (first (recorded parts state .layer) y)) [
+        | yes k ↦ told-alike (tree-exact parts state x y f r l m k) e
+        | no d ↦ let u = other-tree parts state x y f r l m d in absurd (let z : _≡_ {A = ℕ} 0 1 = cc in omega arith)
+      ]
+    ]
+  ]
+
+  -- and so only on nodes of equal lists of labels
+  pub alike-told-labels : (x y : ℕ) → alike parts state x y ≡ compared true → SameList (plain (recorded parts state)) (recorded parts state .label) x y
+  alike-told-labels x y e = alike-by-labels (recorded parts state) (alike-told x y e)

@@ -1,3 +1,3 @@
-pub mod LabelLaws
+pub mod ListLaws
 pub mod PlainParentExact
 pub mod AlikeExact

@@ -15,8 +15,8 @@ growthCall t w out g = onLength 4 out (outcome (g .parts) (g .tally) (grownReply
 abbrev pub firstCall : Parts → List ℕ → List ℕ → ℕ → State → Outcome
 firstCall t w out scratch s = growthCall t w out (addFirst t w scratch s)
 
-abbrev pub leafCall : Parts → List ℕ → List ℕ → ℕ → State → ℕ → ℕ → Outcome
-leafCall t w out scratch s parent label = growthCall t w out (addLeaf t w scratch s parent label)
+abbrev pub leafCall : Parts → List ℕ → List ℕ → ℕ → State → ℕ → ℕ → ℕ → Outcome
+leafCall t w out scratch s parent label face = growthCall t w out (addLeaf t w scratch s parent label face)
 
 abbrev pub rootCall : Parts → List ℕ → List ℕ → ℕ → State → ℕ → Bool → ℕ → Outcome
 rootCall t w out scratch s x named opening = growthCall t w out (addOver t w scratch s x named opening)

@@ -35,7 +35,7 @@ pub extern "C" fn nca_table_add_first(
     reply_grown(grown, out)
 }
 
-// A new leaf. Out: count, node, rows renumbered, head.
+// A new leaf of a label and a face. Out: count, node, rows renumbered, head.
 #[no_mangle]
 pub extern "C" fn nca_table_add_leaf(
     fields: &mut [u16],
@@ -47,9 +47,10 @@ pub extern "C" fn nca_table_add_leaf(
     count: u16,
     parent: u16,
     label: u16,
+    face: u16,
     out: &mut [u16],
 ) -> u16
-    ensures { λ r. ⌜ outcome (partsOf (now (fields .exit)) (now (numbers .exit)) (now (levels .exit)) (now (ancestors .exit))) (now (tally .exit)) (reply r (now (out .exit))) ≡ leafCall (partsOf (now (fields .entry)) (now (numbers .entry)) (now (levels .entry)) (now (ancestors .entry))) (now (tally .entry)) (now (out .entry)) (length (now (scratch .entry))) (stateOf count) parent label ⌝ }
+    ensures { λ r. ⌜ outcome (partsOf (now (fields .exit)) (now (numbers .exit)) (now (levels .exit)) (now (ancestors .exit))) (now (tally .exit)) (reply r (now (out .exit))) ≡ leafCall (partsOf (now (fields .entry)) (now (numbers .entry)) (now (levels .entry)) (now (ancestors .entry))) (now (tally .entry)) (now (out .entry)) (length (now (scratch .entry))) (stateOf count) parent label face ⌝ }
 {
     if out.len() != GROWN_OUT {
         return number_of(Refusal::Misfit);
@@ -65,6 +66,7 @@ pub extern "C" fn nca_table_add_leaf(
         state,
         parent,
         label,
+        face,
     );
     reply_grown(grown, out)
 }

@@ -6,11 +6,11 @@ use Rattle.log.specs.Outcome.{Outcome, end, refusal, field}
 use Rattle.log.specs.Field.{fieldAt}
 use Rattle.replies.specs.Reply.{Reply, reply, misfit, onLength}
 
--- the tag, 0 at the log's end, and two values, 0 where the field has none
+-- the kind, 0 at the log's end, and three values, 0 where the field has fewer
 abbrev pub fieldReply : List ℕ → Outcome → Reply ℕ
-fieldReply out end = reply 0 (0 ∷ 0 ∷ 0 ∷ [])
+fieldReply out end = reply 0 (0 ∷ 0 ∷ 0 ∷ 0 ∷ [])
 fieldReply out (refusal n next) = reply n out
-fieldReply out (field tag values next) = reply 0 (tag ∷ getD values 0 0 ∷ getD values 1 0 ∷ [])
+fieldReply out (field kind values next) = reply 0 (kind ∷ getD values 0 0 ∷ getD values 1 0 ∷ getD values 2 0 ∷ [])
 
 unfoldable pub fieldCall : List ℕ → ℕ → List ℕ → Reply ℕ
-fieldCall log place out = onLength 3 out (fieldReply out (fieldAt log place)) (misfit out)
+fieldCall log place out = onLength 4 out (fieldReply out (fieldAt log place)) (misfit out)

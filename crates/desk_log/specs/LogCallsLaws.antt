@@ -11,10 +11,10 @@ use Rattle.replies.specs.ReplyLaws.{on-length, off-length}
 use Rattle.desk_log.specs.LogCalls.{fieldReply, fieldCall}
 
 module _ (log : List ℕ) (place : ℕ) (out : List ℕ) {r : ℕ} where
-  pub field-misfit : r ≡ 3 → length out ≢ 3 → reply r out ≡ fieldCall log place out
+  pub field-misfit : r ≡ 3 → length out ≢ 4 → reply r out ≡ fieldCall log place out
   unfolding fieldCall
-  field-misfit h e = rw h (off-length 3 out _ (misfit out) e)
+  field-misfit h e = rw h (off-length 4 out _ (misfit out) e)
 
-  pub field-read : (after : List ℕ) (f : Outcome) → length out ≡ 3 → f ≡ fieldAt log place → reply r after ≡ fieldReply out f → reply r after ≡ fieldCall log place out
+  pub field-read : (after : List ℕ) (f : Outcome) → length out ≡ 4 → f ≡ fieldAt log place → reply r after ≡ fieldReply out f → reply r after ≡ fieldCall log place out
   unfolding fieldCall
-  field-read after f e q h = rw (h, q) (on-length 3 out (fieldReply out (fieldAt log place)) _ e)
+  field-read after f e q h = rw (h, q) (on-length 4 out (fieldReply out (fieldAt log place)) _ e)

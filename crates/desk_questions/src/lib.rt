@@ -40,7 +40,7 @@ pub extern "C" fn nca_table_query(
     reply_answered(answered, out)
 }
 
-// Whether x and y have equal lists of labels. Out: 1 or 0.
+// Whether x and y have equal lists of labels and of faces. Out: 1 or 0.
 #[no_mangle]
 pub extern "C" fn nca_table_alike(
     fields: &[u16],
@@ -58,7 +58,7 @@ pub extern "C" fn nca_table_alike(
         return number_of(Refusal::Misfit);
     }
     let state = State { count: count };
-    let compared = alike::same_labels(fields, numbers, levels, ancestors, state, x, y);
+    let compared = alike::are_alike(fields, numbers, levels, ancestors, state, x, y);
     reply_compared(compared, out)
 }
 

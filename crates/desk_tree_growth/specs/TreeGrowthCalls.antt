@@ -39,8 +39,8 @@ afterGrowth b out g = outcome (treeAfter b (g .parts) (g .tally) (g .outcome)) (
 abbrev pub onLengths : List ℕ → List ℕ → Growth → Outcome
 onLengths b out g = onLength treeBytes b (onLength 6 out (afterGrowth b out g) (outcome b (misfit out))) (outcome b (misfit out))
 
-unfoldable pub leafTree : List ℕ → List ℕ → ℕ → ℕ → Outcome
-leafTree b out parent label = onLengths b out (addLeaf (partsIn b) (tallyIn b) treeRows (stateIn b) parent label)
+unfoldable pub leafTree : List ℕ → List ℕ → ℕ → ℕ → ℕ → Outcome
+leafTree b out parent label face = onLengths b out (addLeaf (partsIn b) (tallyIn b) treeRows (stateIn b) parent label face)
 
 unfoldable pub rootTree : List ℕ → List ℕ → Bool → ℕ → Outcome
 rootTree b out named opening = onLengths b out (addRoot (partsIn b) (tallyIn b) treeRows (stateIn b) named opening)

@@ -18,9 +18,9 @@ use Rattle.desk_tree_growth.specs.TreeGrowthCalls.{outcome, treeAfter, G
 
 module _ (b after : List ℕ) (u t : Parts) (v w : List ℕ) (s : State) (g : GrowthOutcome) (i : u ≡ partsIn b) (l : v ≡ tallyIn b) (j : s ≡ stateIn b)
     (h : GrownHeld after t w g) where
-  pub leaf-held : (parent label : ℕ) → growth.result t w g ≡ addLeaf u v treeRows s parent label → GrowthHeld after (addLeaf (partsIn b) (tallyIn b) treeRows (stateIn b) parent label)
-  leaf-held parent label q =
-      let z : growth.result t w g ≡ addLeaf (partsIn b) (tallyIn b) treeRows (stateIn b) parent label = q ∙ rw (i, l, j) in
+  pub leaf-held : (parent label face : ℕ) → growth.result t w g ≡ addLeaf u v treeRows s parent label face → GrowthHeld after (addLeaf (partsIn b) (tallyIn b) treeRows (stateIn b) parent label face)
+  leaf-held parent label face q =
+      let z : growth.result t w g ≡ addLeaf (partsIn b) (tallyIn b) treeRows (stateIn b) parent label face = q ∙ rw (i, l, j) in
       subst (λ (o : Growth). GrowthHeld after o) z h
 
   pub root-held : (named : Bool) (opening : ℕ) → growth.result t w g ≡ addRoot u v treeRows s named opening
@@ -36,13 +36,13 @@ module _ (b out : List ℕ) {r : ℕ} where
   grown-out-misfit : (o : Growth) → r ≡ 3 → length b ≡ treeBytes → length out ≢ 6 → outcome b (reply r out) ≡ onLengths b out o
   grown-out-misfit o h e f = rw h (out-misfit treeBytes b out 6 (afterGrowth b out o) (outcome b (misfit out)) e f)
 
-  pub leaf-tree-misfit : (parent label : ℕ) → r ≡ 3 → length b ≢ treeBytes → outcome b (reply r out) ≡ leafTree b out parent label
+  pub leaf-tree-misfit : (parent label face : ℕ) → r ≡ 3 → length b ≢ treeBytes → outcome b (reply r out) ≡ leafTree b out parent label face
   unfolding leafTree
-  leaf-tree-misfit parent label = grown-tree-misfit (addLeaf (partsIn b) (tallyIn b) treeRows (stateIn b) parent label)
+  leaf-tree-misfit parent label face = grown-tree-misfit (addLeaf (partsIn b) (tallyIn b) treeRows (stateIn b) parent label face)
 
-  pub leaf-out-misfit : (parent label : ℕ) → r ≡ 3 → length b ≡ treeBytes → length out ≢ 6 → outcome b (reply r out) ≡ leafTree b out parent label
+  pub leaf-out-misfit : (parent label face : ℕ) → r ≡ 3 → length b ≡ treeBytes → length out ≢ 6 → outcome b (reply r out) ≡ leafTree b out parent label face
   unfolding leafTree
-  leaf-out-misfit parent label = grown-out-misfit (addLeaf (partsIn b) (tallyIn b) treeRows (stateIn b) parent label)
+  leaf-out-misfit parent label face = grown-out-misfit (addLeaf (partsIn b) (tallyIn b) treeRows (stateIn b) parent label face)
 
   pub root-tree-misfit : (named : Bool) (opening : ℕ) → r ≡ 3 → length b ≢ treeBytes → outcome b (reply r out) ≡ rootTree b out named opening
   unfolding rootTree
@@ -57,9 +57,9 @@ module _ (b out : List ℕ) {r : ℕ} where
     kept : outcome after (reply r outAfter) ≡ onLengths b out (growth.result t w g)
     kept = rw (k, h) (both-fit treeBytes b out 6 (outcome (treeAfter b t w g) (grownBytes out g)) (outcome b (misfit out)) e f)
 
-    pub leaf-kept : (parent label : ℕ) → growth.result t w g ≡ addLeaf u v treeRows s parent label → outcome after (reply r outAfter) ≡ leafTree b out parent label
+    pub leaf-kept : (parent label face : ℕ) → growth.result t w g ≡ addLeaf u v treeRows s parent label face → outcome after (reply r outAfter) ≡ leafTree b out parent label face
     unfolding leafTree
-    leaf-kept parent label q = let z : growth.result t w g ≡ addLeaf (partsIn b) (tallyIn b) treeRows (stateIn b) parent label = q ∙ rw (i, l, j) in kept ∙ ap (onLengths b out) z
+    leaf-kept parent label face q = let z : growth.result t w g ≡ addLeaf (partsIn b) (tallyIn b) treeRows (stateIn b) parent label face = q ∙ rw (i, l, j) in kept ∙ ap (onLengths b out) z
 
     pub root-kept : (named : Bool) (opening : ℕ) → growth.result t w g ≡ addRoot u v treeRows s named opening
         → outcome after (reply r outAfter) ≡ rootTree b out named opening

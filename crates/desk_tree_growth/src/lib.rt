@@ -53,11 +53,17 @@ fn keep_grown(
     }
 }
 
-// A new leaf. Out: node, rows renumbered, head.
+// A new leaf of a label and a face. Out: node, rows renumbered, head.
 #[no_mangle]
-pub extern "C" fn nca_add_leaf(tree: &mut [u8], parent: u16, label: u16, out: &mut [u8]) -> u16
-    ensures answer { λ r. ⌜ outcome (now (tree .exit)) (reply r (now (out .exit))) ≡ leafTree (now (tree .entry)) (now (out .entry)) parent label ⌝ }
-    ensures held { λ r. ⌜ (r ≡ 0 → GrowthHeld (now (tree .exit)) (addLeaf (partsIn (now (tree .entry))) (tallyIn (now (tree .entry))) treeRows (stateIn (now (tree .entry))) parent label)) ⌝ }
+pub extern "C" fn nca_add_leaf(
+    tree: &mut [u8],
+    parent: u16,
+    label: u16,
+    face: u16,
+    out: &mut [u8],
+) -> u16
+    ensures answer { λ r. ⌜ outcome (now (tree .exit)) (reply r (now (out .exit))) ≡ leafTree (now (tree .entry)) (now (out .entry)) parent label face ⌝ }
+    ensures held { λ r. ⌜ (r ≡ 0 → GrowthHeld (now (tree .exit)) (addLeaf (partsIn (now (tree .entry))) (tallyIn (now (tree .entry))) treeRows (stateIn (now (tree .entry))) parent label face)) ⌝ }
 {
     if tree.len() != BYTES {
         return number_of(Refusal::Misfit);
@@ -84,6 +90,7 @@ pub extern "C" fn nca_add_leaf(tree: &mut [u8], parent: u16, label: u16, out: &m
         state,
         parent,
         label,
+        face,
     );
     keep_grown(tree, &fields, &numbers, &levels, &ancestors, &tally, grown);
     reply_grown(grown, out)

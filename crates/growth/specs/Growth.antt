@@ -36,7 +36,7 @@ nodeAt row rows head = node (oneMore row) row rows head
 -- a growth that was served: the head is the one of its seat, and there is a node more of its label. That is the new row's, or the opening that an old root
 -- of label 0 takes: then the new row is a node more of label 0, and the old root one less (02: "where an old source takes it, entry 0 stays")
 unfoldable pub served : List ℕ → Plan → Stored → Result
-served w g s = result (s .parts) (counted w (g .label)) (nodeAt (g .seat .leaf .row) (s .given) (g .seat .head .row))
+served w g s = result (s .parts) (counted w (g .marks .label)) (nodeAt (g .seat .leaf .row) (s .given) (g .seat .head .row))
 
 -- a first node that was served: one row is numbered, and it heads itself; its label is 0
 unfoldable pub started : Parts → List ℕ → ℕ → Result
@@ -50,7 +50,7 @@ withRoom t w c label r = pick (hasRoom w c label) r (result t w (refused Corrupt
 
 -- by its plan, at capacity c: a refusal changes nothing
 unfoldable pub grownAt : Parts → List ℕ → ℕ → Planned → Result
-grownAt t w c (Grow g) = withRoom t w c (g .label) (served w g (planStored t (g .seat .leaf .row) g))
+grownAt t w c (Grow g) = withRoom t w c (g .marks .label) (served w g (planStored t (g .seat .leaf .row) g))
 grownAt t w c (Start n) = withRoom t w c 0 (started t w n)
 grownAt t w c (Refuse r) = result t w (refused r)
 
@@ -62,9 +62,9 @@ grownBy t w p = onFit (capacityWith t w) (λ c. grownAt t w c p) (result t w (re
 unfoldable pub addFirst : Parts → List ℕ → ℕ → State → Result
 addFirst t w scratch s = grownBy t w (firstPlan t scratch s)
 
--- a new leaf of this label under this parent
-unfoldable pub addLeaf : Parts → List ℕ → ℕ → State → ℕ → ℕ → Result
-addLeaf t w scratch s parent label = grownBy t w (leafPlan t scratch s parent label)
+-- a new leaf of this label and face under this parent
+unfoldable pub addLeaf : Parts → List ℕ → ℕ → State → ℕ → ℕ → ℕ → Result
+addLeaf t w scratch s parent label face = grownBy t w (leafPlan t scratch s parent label face)
 
 -- a new root over x, which takes the opening, where one is named (02: "A top shall name the opening, which becomes the old source's panel")
 unfoldable pub addOver : Parts → List ℕ → ℕ → State → ℕ → Bool → ℕ → Result

@@ -11,7 +11,7 @@ use lib.Seq.{getD-set-same, getD-set-other}
 use Rattle.table.specs.declared.state.State.{State}
 use Rattle.laws.specs.Test.{says-true}
 use Rattle.layer.specs.Layout.{fieldStride, depthPlace}
-use Rattle.table.specs.Layout.{labelPlace, rootPlace}
+use Rattle.table.specs.Layout.{labelPlace, facePlace, rootPlace}
 use Rattle.table.specs.Parts.{Parts, partsOf, withLevel}
 use Rattle.table.specs.Capacity.{Fits}
 use Rattle.table.specs.Table.{Table, tableOf}
@@ -39,7 +39,7 @@ use Rattle.growth_store.specs.Start.{startedFields}
 use Rattle.renumber_laws.specs.Column.{put, put-other}
 use Rattle.renumber_exact.specs.Columns.{RowView, row-set}
 use Rattle.join_exact.specs.LoneExact.{own, fields, lone-long, lone-in, kept-in}
-use Rattle.growth_exact.specs.GivenLabel.{says-opening}
+use Rattle.growth_exact.specs.GivenMarks.{says-opening}
 use Rattle.growth_exact.specs.PlanExact.{layerParts, long-parts}
 use Rattle.growth_exact.specs.GrowthExact.{tableGrown, capacity-is, standing-is, count-more}
 
@@ -73,14 +73,16 @@ module _ {c : ℕ} (p : Parts) (s : State) (fit : Fits c p) (r : Rules c (tableO
   left = partsOf (startedFields (p .fields) n) (loneNumbers (p .numbers) n) (withLevel (p .levels) n (pos 0)) (loneEntries (p .ancestors) n)
 
   abbrev row : ℕ → ℕ
-  row = put (put (own (layerParts p) (long-parts fit) n room) labelPlace 0) rootPlace n
+  row = put (put (put (own (layerParts p) (long-parts fit) n room) labelPlace 0) facePlace 0) rootPlace n
 
   view : RowView fieldStride c (p .fields) n (startedFields (p .fields) n) row
   unfolding startedFields
-  view = row-set _ (row-set _ (fields (layerParts p) (long-parts fit) n room) room labelPlace 0 (omega arith)) room rootPlace n (omega arith)
+  view =
+      row-set _ (row-set _ (row-set _ (fields (layerParts p) (long-parts fit) n room) room labelPlace 0 (omega arith)) room facePlace 0 (omega arith)) room rootPlace n (omega arith)
 
   same : (j : ℕ) → j ≤ depthPlace → row j ≡ own (layerParts p) (long-parts fit) n room j
-  same j b = put-other (put (own (layerParts p) (long-parts fit) n room) labelPlace 0) rootPlace n j (λ e. omega arith)
+  same j b = put-other (put (put (own (layerParts p) (long-parts fit) n room) labelPlace 0) facePlace 0) rootPlace n j (λ e. omega arith)
+      ∙ put-other (put (own (layerParts p) (long-parts fit) n room) labelPlace 0) facePlace 0 j (λ e. omega arith)
       ∙ put-other (own (layerParts p) (long-parts fit) n room) labelPlace 0 j (λ e. omega arith)
 
   start-frame : StartFrame c t (tableOf left (suc n))
@@ -88,6 +90,7 @@ module _ {c : ℕ} (p : Parts) (s : State) (fit : Fits c p) (r : Rules c (tableO
     row = kept-in (layerParts p) (long-parts fit) n room view same n (suc n) x d;
     marks = record {
       sameLabel = view .others x labelPlace (omega arith) d;
+      sameFace = view .others x facePlace (omega arith) d;
       sameLevel = getD-set-other (p .levels) n x (pos 0) (pos 0) d;
     };
     sameRoot = view .others x rootPlace (omega arith) d;
@@ -102,6 +105,7 @@ module _ {c : ℕ} (p : Parts) (s : State) (fit : Fits c p) (r : Rules c (tableO
             (λ x l. start-frame x (omega arith) (λ e. omega arith) .row);
         marks = λ x l. start-frame x (omega arith) (λ e. omega arith) .marks;
         labelNew = view .own labelPlace (omega arith);
+        faceNew = view .own facePlace (omega arith);
         levelNew = getD-set-same (p .levels) n (pos 0) (pos 0) (omega (arith, fit .levels));
         rootNew = view .own rootPlace (omega arith);
         roots = λ x l. start-frame x (omega arith) (λ e. omega arith) .sameRoot;

@@ -45,9 +45,9 @@ module _ {c : ℕ} (p : Parts) (w : List ℕ) (s : State) (fit : Fits c p) (r : 
   pub first-frame : addFirst p w scratch s .outcome ≡ node m z k h → StartFrame c (tableOf p (s .count)) (tableOf (addFirst p w scratch s .parts) m)
   first-frame e = start-frame e (first-outcome p w s fit r i scratch)
 
-  pub leaf-frame : (v label : ℕ) → addLeaf p w scratch s v label .outcome ≡ node m z k h
-      → GrowthFrame c (tableOf p (s .count)) (tableOf (addLeaf p w scratch s v label .parts) m) (leaf v label) h
-  leaf-frame v label e = growth-frame e (leaf-outcome p w s fit r i scratch v label)
+  pub leaf-frame : (v label face : ℕ) → addLeaf p w scratch s v label face .outcome ≡ node m z k h
+      → GrowthFrame c (tableOf p (s .count)) (tableOf (addLeaf p w scratch s v label face .parts) m) (leaf v label face) h
+  leaf-frame v label face e = growth-frame e (leaf-outcome p w s fit r i scratch v label face)
 
   module _ (named : Bool) (opening : ℕ) where
     pub over-frame : (x : ℕ) → addOver p w scratch s x named opening .outcome ≡ node m z k h

@@ -17,7 +17,7 @@ use Rattle.table.specs.Table.{Table, tableOf}
 use Rattle.table.specs.Tree.{rootAt}
 use Rattle.table.specs.State.{isStanding}
 use Rattle.table.specs.StateLaws.{says-standing}
-use Rattle.table.specs.Rules.{labelLimit}
+use Rattle.table.specs.Rules.{labelLimit, faceLimit}
 use Rattle.layer.specs.StoredTree.{first}
 use Rattle.table.specs.PlainTree.{root as rootIn}
 use Rattle.table.specs.Rules.{Rules, numbered}
@@ -29,7 +29,7 @@ use Rattle.layer_laws.specs.Numbered.{InTree, in-tree, first-is}
 use Rattle.table_laws.specs.LevelBounds.{level-small}
 use Rattle.table_laws.specs.Lines.{root-in}
 use Rattle.table_laws.specs.TreeTests.{tree-is, root-is}
-use Rattle.growth_laws.specs.Growth.{Growth, leaf, root, Opens, Named, named-leaf, named-root, levelOf, treeOf}
+use Rattle.growth_laws.specs.Growth.{Growth, leaf, root, Opens, Named, named-leaf, named-root, treeOf}
 use Rattle.join_laws.specs.Extend.{withLone}
 use Rattle.growth_laws.specs.Grown.{Grown}
 use Rattle.growth_laws.specs.GrownLaws.{growth-pays}
@@ -50,7 +50,7 @@ use Rattle.growth_plan.specs.PlanLaws.{leaf-row, above-row, over-row, root-row}
 use Rattle.growth.specs.Outcome.{node}
 use Rattle.growth.specs.Growth.{Result, result, nodeAt, served, grownAt, grownBy, addLeaf, addOver, addRoot}
 use Rattle.renumber_exact.specs.SizeWalkExact.{more-one}
-use Rattle.growth_exact.specs.GivenLabel.{labelGiven, labelledRow, says-label, says-opening, given-most, given-tallied}
+use Rattle.growth_exact.specs.GivenMarks.{labelGiven, marks, says-label, says-face, says-opening, given-most, given-tallied}
 use Rattle.growth_exact.specs.PlanExact.{plan, joinedParts, plan-stored, plan-fits, plan-step}
 use Rattle.growth_exact.specs.GrowthSite.{site, level-planned, grows, headRow, tableGrown as tableJoined, labelled, grown, grown-rules, site-frame}
 
@@ -116,15 +116,15 @@ module _ {c : ℕ} (p : Parts) (w : List ℕ) (s : State) (fit : Fits c p) (r : 
   h = headRow p (s .count) fit r room g named
 
   abbrev left : Result
-  left = result (joinedParts fit (site p (s .count) fit r room g named) (levelOf t g) (labelledRow t g) (labelGiven g) (treeOf t g)) (counted w (labelGiven g))
+  left = result (joinedParts fit (site p (s .count) fit r room g named) (marks t g)) (counted w (labelGiven g))
       (nodeAt (s .count) (rows (d .layer) h) h)
 
   free : hasRoom w c (labelGiven g) ≡ true
   free = tallied-room k room (given-most named)
 
-  outcome-is : grownBy p w (Grow (plan fit (site p (s .count) fit r room g named) (levelOf t g) (labelledRow t g) (labelGiven g) (treeOf t g))) ≡ left
+  outcome-is : grownBy p w (Grow (plan fit (site p (s .count) fit r room g named) (marks t g))) ≡ left
   unfolding grownBy grownAt served
-  outcome-is = rw (with-told p w fit (k .long), free) (ap (λ (x : Stored). result (x .parts) (counted w (labelGiven g)) (nodeAt (s .count) (x .given) h)) (plan-stored fit (site p (s .count) fit r room g named) (levelOf t g) (labelledRow t g) (labelGiven g) (treeOf t g)))
+  outcome-is = rw (with-told p w fit (k .long), free) (ap (λ (x : Stored). result (x .parts) (counted w (labelGiven g)) (nodeAt (s .count) (x .given) h)) (plan-stored fit (site p (s .count) fit r room g named) (marks t g)))
 
   left-exactly : GrownExactly c p s g left
   left-exactly =
@@ -135,18 +135,18 @@ module _ {c : ℕ} (p : Parts) (w : List ℕ) (s : State) (fit : Fits c p) (r : 
       record {
         head = h;
         answered = count-more (s .count) p fit room (rows (d .layer) h) h;
-        fits = plan-fits fit i (levelOf t g) (labelledRow t g) (labelGiven g) (treeOf t g);
+        fits = plan-fits fit i (marks t g);
         grown = b;
         order = order-after (numbered after (fit .most)) (b .step .renumbered);
         rules = after;
         tally = given-tallied r (fit .most) k named (labelled p (s .count) fit r room g named);
         plain = plainly;
         frame = site-frame p (s .count) fit r room g named;
-        headRows = join-head (i .was) (plan-step fit i (levelOf t g) (labelledRow t g) (labelGiven g) (treeOf t g));
+        headRows = join-head (i .was) (plan-step fit i (marks t g));
         pays = growth-pays (numbered r (fit .most)) b;
       }
 
-  row-exactly : (q : Planned) → q ≡ Grow (plan fit (site p (s .count) fit r room g named) (levelOf t g) (labelledRow t g) (labelGiven g) (treeOf t g)) → GrownExactly c p s g (grownBy p w q)
+  row-exactly : (q : Planned) → q ≡ Grow (plan fit (site p (s .count) fit r room g named) (marks t g)) → GrownExactly c p s g (grownBy p w q)
   row-exactly q e = rw (e, outcome-is) left-exactly
 
 -- The three calls
@@ -154,14 +154,15 @@ module _ {c : ℕ} (p : Parts) (w : List ℕ) (s : State) (fit : Fits c p) (r : 
 module _ {c : ℕ} (p : Parts) (w : List ℕ) (s : State) (fit : Fits c p) (r : Rules c (tableOf p (s .count))) (k : TallyOf (tableOf p (s .count)) w)
     (scratch : ℕ) (same : scratch ≡ c) (room : s .count < c) where
   -- a leaf
-  pub leaf-exact : (v label : ℕ) → v < s .count → 1 ≤ label → label ≤ labelLimit → GrownExactly c p s (leaf v label) (addLeaf p w scratch s v label)
+  pub leaf-exact : (v label face : ℕ) → v < s .count → 1 ≤ label → label ≤ labelLimit → face ≤ faceLimit
+      → GrownExactly c p s (leaf v label face) (addLeaf p w scratch s v label face)
   unfolding addLeaf
-  leaf-exact v label l i j =
-      let g : Named (tableOf p (s .count)) (leaf v label) = named-leaf l i j in
-      row-exactly p w s fit r k room (leaf v label) g (leafPlan p scratch s v label)
-      (sym (leaf-row p scratch s v label c (capacity-is p fit) same l (says-true (says-label label) (i, j)) (λ e. omega arith)
-      (standing-is p s r) (rooted p s fit r v l) _ (sym (level-planned p (s .count) fit r room (leaf v label) g _ (level-small r (fit .most) v l))))
-      ∙ grows p (s .count) fit r room (leaf v label) g)
+  leaf-exact v label face l i j m =
+      let g : Named (tableOf p (s .count)) (leaf v label face) = named-leaf l i j m in
+      row-exactly p w s fit r k room (leaf v label face) g (leafPlan p scratch s v label face)
+      (sym (leaf-row p scratch s v label face c (capacity-is p fit) same l (says-true (says-label label) (i, j)) (says-true (says-face face) m) (λ e. omega arith)
+      (standing-is p s r) (rooted p s fit r v l) _ (sym (level-planned p (s .count) fit r room (leaf v label face) g _ (level-small r (fit .most) v l))))
+      ∙ grows p (s .count) fit r room (leaf v label face) g)
 
   -- a new root over the root x, through an opening if one is named
   module _ (named : Bool) (opening : ℕ) (through : Opens named opening) where
@@ -170,7 +171,7 @@ module _ {c : ℕ} (p : Parts) (w : List ℕ) (s : State) (fit : Fits c p) (r : 
       over = root x named opening
 
       above : rootOver p s (first (tableOf p (s .count) .layer) x) x named opening
-          ≡ Grow (plan fit (site p (s .count) fit r room over (named-root l own through)) (levelOf (tableOf p (s .count)) over) (labelledRow (tableOf p (s .count)) over) (labelGiven over) (treeOf (tableOf p (s .count)) over))
+          ≡ Grow (plan fit (site p (s .count) fit r room over (named-root l own through)) (marks (tableOf p (s .count)) over))
       above =
           let g : Named (tableOf p (s .count)) over = named-root l own through in
           let f : ℕ = treeOf (tableOf p (s .count)) over in

@@ -22,7 +22,7 @@ use Rattle.layer.specs.Numbered.{Numbered}
 use Rattle.layer_laws.specs.Numbered.{shape, in-tree, first-in}
 use Rattle.layer_laws.specs.SoundRows.{numbered-sound}
 use Rattle.table_laws.specs.LevelBounds.{level-depth, abs-suc, abs-pred}
-use Rattle.growth_laws.specs.Growth.{Growth, leaf, root, Named, named-leaf, named-root, parentOf, levelOf, treeOf}
+use Rattle.growth_laws.specs.Growth.{Growth, leaf, root, Named, named-leaf, named-root, parentOf, faceOf, levelOf, treeOf}
 use Rattle.join_laws.specs.Extend.{withLone, row-old, entry-old, extend, extend-alone}
 use Rattle.growth_laws.specs.Grown.{Grown}
 use Rattle.growth_laws.specs.GrowthFrame.{GrowthFrame}
@@ -39,8 +39,9 @@ use Rattle.growth_plan.specs.PlannedRow.{plannedRow}
 use Rattle.renumber_laws.specs.Column.{put}
 use Rattle.join_exact.specs.Site.{Site}
 use Rattle.join_exact.specs.SeatExact.{h}
-use Rattle.growth_exact.specs.GivenLabel.{labelGiven, labelledRow, Labelled, labelled-in, label-old, label-new}
-use Rattle.growth_exact.specs.PlanExact.{layerParts, long-parts, plan, row-planned, joinedTable, plan-step, mark-label, new-label, kept-label, mark-level, kept-level, plan-roots, plan-unused}
+use Rattle.growth_exact.specs.MarksExact.{Given}
+use Rattle.growth_exact.specs.GivenMarks.{labelGiven, labelledRow, marks, label-gives, face-gives, labelled-in, column-old, column-new}
+use Rattle.growth_exact.specs.PlanExact.{layerParts, long-parts, plan, row-planned, joinedTable, plan-step, plan-label, plan-face, mark-level, kept-level, plan-roots, plan-unused}
 
 -- a row that the walks read passes the check, in a layer that is numbered
 pub good-row : {t : Layer} → Numbered t → (y : ℕ) → y < t .count → isRow (t .count) (t .row) y ≡ true
@@ -57,7 +58,7 @@ module _ {c : ℕ} (p : Parts) (n : ℕ) (fit : Fits c p) (r : Rules c (tableOf 
   parent-in = go named
     where
       go : {g : Growth} → Named t g → parentOf g < n
-      go (named-leaf l a b) = l
+      go (named-leaf l a b m) = l
       go (named-root l e o) = l
 
   old-in : (y : ℕ) → Old (suc n) n y → y < n
@@ -70,7 +71,7 @@ module _ {c : ℕ} (p : Parts) (n : ℕ) (fit : Fits c p) (r : Rules c (tableOf 
       low v l = omega (arith, level-depth r (fit .most) v l, depth-below (shape num) v l, fit .most)
 
       go : {g : Growth} → Named t g → natAbs (levelOf t g) ≤ levelLimit
-      go (named-leaf {v = v} l a b) = rw +ℤ-one (omega (arith, abs-suc (t .level v), low v l))
+      go (named-leaf {v = v} l a b m) = rw +ℤ-one (omega (arith, abs-suc (t .level v), low v l))
       go (named-root {r = v} l e o) = rw -ℤ-one (omega (arith, abs-pred (t .level v), low v l))
 
   pub site : Site c (layerParts p) n (withLone (t .layer)) n (parentOf g)
@@ -91,7 +92,7 @@ module _ {c : ℕ} (p : Parts) (n : ℕ) (fit : Fits c p) (r : Rules c (tableOf 
   tree-in m i = go named
     where
       go : {g : Growth} → Named t g → (treeOf t g ≡ none) ⊎ (treeOf t g < m)
-      go (named-leaf l a b) = inl refl
+      go (named-leaf l a b m) = inl refl
       go (named-root {r = v} l e o) = inr (omega (arith, first-in num (in-tree num v l)))
 
   -- its level is one, as is the level that it is made from
@@ -100,25 +101,25 @@ module _ {c : ℕ} (p : Parts) (n : ℕ) (fit : Fits c p) (r : Rules c (tableOf 
   level-planned w b = rw (le-leb (natAbs w) levelLimit b, le-leb (natAbs (levelOf t g)) levelLimit level-within) refl
 
   -- planned, with no refusal
-  pub grows : plannedRow (p .fields) (p .numbers) (p .ancestors) n n (parentOf g) (levelOf t g) (labelledRow t g) (labelGiven g) (treeOf t g)
-      ≡ Grow (plan fit site (levelOf t g) (labelledRow t g) (labelGiven g) (treeOf t g))
-  grows = row-planned fit site (levelOf t g) (labelledRow t g) (labelGiven g) (treeOf t g)
+  pub grows : plannedRow (p .fields) (p .numbers) (p .ancestors) n n (parentOf g) (marks t g)
+      ≡ Grow (plan fit site (marks t g))
+  grows = row-planned fit site (marks t g)
 
   abbrev pub headRow : ℕ
   headRow = h site
 
   abbrev pub tableGrown : Table
-  tableGrown = joinedTable fit site (levelOf t g) (labelledRow t g) (labelGiven g) (treeOf t g)
+  tableGrown = joinedTable fit site (marks t g)
 
-  -- the label is given
-  pub labelled : Labelled t tableGrown g
-  labelled =
-      let i : labelledRow t g < c = omega (arith, labelled-in named) in
-      record {
-        given = mark-label fit site (levelOf t g) (labelledRow t g) (labelGiven g) (treeOf t g) i;
-        fresh = new-label fit site (levelOf t g) (labelledRow t g) (labelGiven g) (treeOf t g) i;
-        kept = kept-label fit site (levelOf t g) (labelledRow t g) (labelGiven g) (treeOf t g) i;
-      }
+  -- the label and the face are given
+  taker-in : labelledRow t g < c
+  taker-in = omega (arith, labelled-in named)
+
+  pub labelled : Given (t .label) (tableGrown .label) n (labelledRow t g) (labelGiven g)
+  labelled = plan-label fit site (marks t g) taker-in
+
+  faced : Given (t .face) (tableGrown .face) n (labelledRow t g) (faceOf g)
+  faced = plan-face fit site (marks t g) taker-in
 
   -- stored, and as 01 has it
   pub grown : Grown t tableGrown g headRow
@@ -127,16 +128,18 @@ module _ {c : ℕ} (p : Parts) (n : ℕ) (fit : Fits c p) (r : Rules c (tableOf 
     named = named;
     alone = withLone (t .layer);
     extended = extend (t .layer) num (omega (arith, fit .most));
-    step = plan-step fit site (levelOf t g) (labelledRow t g) (labelGiven g) (treeOf t g);
-    labels = label-old named labelled;
-    labelNew = label-new named labelled;
-    levels = λ x l. kept-level fit site (levelOf t g) (labelledRow t g) (labelGiven g) (treeOf t g) x (λ e. omega arith);
-    levelNew = mark-level fit site (levelOf t g) (labelledRow t g) (labelGiven g) (treeOf t g);
-    roots = λ x l. plan-roots fit site (levelOf t g) (labelledRow t g) (labelGiven g) (treeOf t g) (tree-in c (omega arith)) x (omega arith) (λ e. omega arith);
+    step = plan-step fit site (marks t g);
+    labels = column-old (label-gives named) labelled;
+    labelNew = column-new (label-gives named) labelled;
+    faces = column-old (face-gives named) faced;
+    faceNew = column-new (face-gives named) faced;
+    levels = λ x l. kept-level fit site (marks t g) x (λ e. omega arith);
+    levelNew = mark-level fit site (marks t g);
+    roots = λ x l. plan-roots fit site (marks t g) (tree-in c (omega arith)) x (omega arith) (λ e. omega arith);
   }
 
   pub grown-rules : Rules c tableGrown
   grown-rules = growth-keeps-rules r (fit .most) room grown
 
   pub site-frame : GrowthFrame c t tableGrown g headRow
-  site-frame = grown-frame num grown (λ x i l. plan-unused fit site (levelOf t g) (labelledRow t g) (labelGiven g) (treeOf t g) (labelled-in named) (tree-in (suc n) (omega arith)) n x (omega arith) l)
+  site-frame = grown-frame num grown (λ x i l. plan-unused fit site (marks t g) (labelled-in named) (tree-in (suc n) (omega arith)) n x (omega arith) l)

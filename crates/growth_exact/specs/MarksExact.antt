@@ -1,4 +1,4 @@
--- What the marks of a row leave: the layer as it is, and the labels, levels and root records that were asked for.
+-- What the marks of a row leave: the layer as it is, and the labels, faces, levels and root records that were asked for.
 use mathlib.Core.Path.{_≡_, refl, fun-ext, _∙_}
 use mathlib.Core.Logic.{_⊎_, _≢_}
 use mathlib.Core.List.{List}
@@ -21,10 +21,11 @@ use Rattle.layer.specs.Layout.{
 use Rattle.layer.specs.Row.{fieldAt, rowOf}
 use Rattle.layer.specs.Layer.{layerOf}
 use Rattle.layer.specs.Write.{withField}
-use Rattle.table.specs.Layout.{labelPlace, rootPlace}
-use Rattle.growth_store.specs.Store.{marked}
-use Rattle.renumber_laws.specs.Column.{put, put-other}
-use Rattle.renumber_exact.specs.Columns.{Holds, holds-set, set-same, set-other, set-link}
+use Rattle.table.specs.Layout.{labelPlace, facePlace, rootPlace}
+use Rattle.growth_plan.specs.declared.row.Marks.{Marks}
+use Rattle.growth_store.specs.Store.{given, marked}
+use Rattle.renumber_laws.specs.Column.{put, put-same, put-other}
+use Rattle.renumber_exact.specs.Columns.{Holds, holds-set, set-same, set-other, set-link, put-at}
 
 -- fields that agree in the layer's places stand for the same layer
 pub same-layer : (f g m a : List ℕ) (n : ℕ) → ((y k : ℕ) → k ≤ depthPlace → fieldAt g y k ≡ fieldAt f y k) → layerOf g m a n ≡ layerOf f m a n
@@ -43,56 +44,94 @@ same-layer f g m a n e = rw rows refl
       e y depthPlace (omega arith),
     ) refl)
 
-module _ {c : ℕ} {f : List ℕ} (h : Holds fieldStride c f) (z labelled label tree : ℕ) where
-  -- the three stores before the last
-  abbrev zeroed : List ℕ
-  zeroed = withField f z labelPlace 0
+-- In a column row y takes v, and row z, if it is another, 0; all others keep theirs.
+pub record Given (was now : ℕ → ℕ) (z y v : ℕ) : Type 0 where
+  pub taken : now y ≡ v
+  pub fresh : z ≢ y → now z ≡ 0
+  pub kept : (x : ℕ) → x ≢ z → x ≢ y → now x ≡ was x
 
-  abbrev given : List ℕ
-  given = withField zeroed labelled labelPlace label
+put-given : (was now : ℕ → ℕ) (z y v : ℕ) → ((x : ℕ) → now x ≡ put (put was z 0) y v x) → Given was now z y v
+put-given was now z y v e = record {
+  taken = e y ∙ put-same (put was z 0) y v;
+  fresh = λ d. e z ∙ put-other (put was z 0) y v z d ∙ put-same was z 0;
+  kept = λ x d o. e x ∙ put-other (put was z 0) y v x o ∙ put-other was z 0 x d;
+}
+
+-- against a column that was the same before
+pub given-before : {before was now : ℕ → ℕ} {z y v : ℕ} → ((x : ℕ) → was x ≡ before x) → Given was now z y v → Given before now z y v
+given-before same g = record { taken = g .taken; fresh = g .fresh; kept = λ x d o. g .kept x d o ∙ same x }
+
+-- Two stores at one place
+module _ {c : ℕ} {f : List ℕ} (h : Holds fieldStride c f) (place z y v : ℕ) (in-row : place < fieldStride) where
+  given-holds : Holds fieldStride c (given f place z y v)
+  unfolding given
+  given-holds = holds-set (holds-set h _ _) _ _
+
+  given-other : (x k : ℕ) → k < fieldStride → k ≢ place → fieldAt (given f place z y v) x k ≡ fieldAt f x k
+  unfolding given
+  given-other x k b d = set-other (holds-set h _ _) y place v in-row x k b d ∙ set-other h z place 0 in-row x k b d
+
+  given-at : z < c → y < c → (x : ℕ) → fieldAt (given f place z y v) x place ≡ put (put (λ x. fieldAt f x place) z 0) y v x
+  unfolding given
+  given-at l i x = set-same (holds-set h _ _) y place v i in-row (put (λ x. fieldAt f x place) z 0) x (set-same h z place 0 l in-row (λ x. fieldAt f x place) x refl)
+
+module _ {c : ℕ} {f : List ℕ} (h : Holds fieldStride c f) (z : ℕ) (m : Marks) where
+  -- the stores before the last
+  abbrev labelled : List ℕ
+  labelled = given f labelPlace z (m .labelled) (m .label)
+
+  abbrev faced : List ℕ
+  faced = given labelled facePlace z (m .labelled) (m .face)
 
   abbrev cleared : List ℕ
-  cleared = withField given z rootPlace none
+  cleared = withField faced z rootPlace none
 
-  zeroed-holds : Holds fieldStride c zeroed
-  zeroed-holds = holds-set h _ _
+  labelled-holds : Holds fieldStride c labelled
+  labelled-holds = given-holds h labelPlace z (m .labelled) (m .label) (omega arith)
 
-  given-holds : Holds fieldStride c given
-  given-holds = holds-set zeroed-holds _ _
+  faced-holds : Holds fieldStride c faced
+  faced-holds = given-holds labelled-holds facePlace z (m .labelled) (m .face) (omega arith)
 
   cleared-holds : Holds fieldStride c cleared
-  cleared-holds = holds-set given-holds _ _
+  cleared-holds = holds-set faced-holds _ _
 
-  pub marked-holds : Holds fieldStride c (marked f z labelled label tree)
+  pub marked-holds : Holds fieldStride c (marked f z m)
   unfolding marked
   marked-holds = holds-set cleared-holds _ _
 
+  -- the root records aside
+  marked-faced : (y k : ℕ) → k < fieldStride → k ≢ rootPlace → fieldAt (marked f z m) y k ≡ fieldAt faced y k
+  unfolding marked
+  marked-faced y k b e = set-other cleared-holds (m .tree) rootPlace z (omega arith) y k b e ∙ set-other faced-holds z rootPlace none (omega arith) y k b e
+
   -- no other field
-  marked-rest : (y k : ℕ) → k < fieldStride → k ≢ labelPlace → k ≢ rootPlace → fieldAt (marked f z labelled label tree) y k ≡ fieldAt f y k
-  unfolding marked
-  marked-rest y k b d e = set-other cleared-holds tree rootPlace z (omega arith) y k b e ∙ set-other given-holds z rootPlace none (omega arith) y k b e
-      ∙ set-other zeroed-holds labelled labelPlace label (omega arith) y k b d ∙ set-other h z labelPlace 0 (omega arith) y k b d
+  faced-rest : (y k : ℕ) → k < fieldStride → k ≢ labelPlace → k ≢ facePlace → fieldAt faced y k ≡ fieldAt f y k
+  faced-rest y k b d e = given-other labelled-holds facePlace z (m .labelled) (m .face) (omega arith) y k b e
+      ∙ given-other h labelPlace z (m .labelled) (m .label) (omega arith) y k b d
 
-  pub marked-layer : (m a : List ℕ) (n : ℕ) → layerOf (marked f z labelled label tree) m a n ≡ layerOf f m a n
-  marked-layer m a n = same-layer f (marked f z labelled label tree) m a n (λ y k b. marked-rest y k (omega arith) (λ e. omega arith) (λ e. omega arith))
+  pub marked-layer : (m′ a : List ℕ) (n : ℕ) → layerOf (marked f z m) m′ a n ≡ layerOf f m′ a n
+  marked-layer m′ a n =
+      same-layer f (marked f z m) m′ a n
+      (λ y k b. marked-faced y k (omega arith) (λ e. omega arith) ∙ faced-rest y k (omega arith) (λ e. omega arith) (λ e. omega arith))
 
-  -- labels: 0 at z, then the label at its row, the others as they were
-  pub label-after : z < c → labelled < c → (y : ℕ)
-      → fieldAt (marked f z labelled label tree) y labelPlace ≡ put (put (λ x. fieldAt f x labelPlace) z 0) labelled label y
-  unfolding marked
-  label-after l i y = set-other cleared-holds tree rootPlace z (omega arith) y labelPlace (omega arith) (λ e. omega arith)
-      ∙ set-other given-holds z rootPlace none (omega arith) y labelPlace (omega arith) (λ e. omega arith)
-      ∙ set-same zeroed-holds labelled labelPlace label i (omega arith) (put (λ x. fieldAt f x labelPlace) z 0) y
-      (set-same h z labelPlace 0 l (omega arith) (λ x. fieldAt f x labelPlace) y refl)
+  -- labels and faces: 0 at z, then what is given at its row, the others as they were
+  pub label-after : z < c → m .labelled < c → Given (λ x. fieldAt f x labelPlace) (λ x. fieldAt (marked f z m) x labelPlace) z (m .labelled) (m .label)
+  label-after l i = put-given _ _ z (m .labelled) (m .label) (λ y. marked-faced y labelPlace (omega arith) (λ e. omega arith)
+      ∙ given-other labelled-holds facePlace z (m .labelled) (m .face) (omega arith) y labelPlace (omega arith) (λ e. omega arith)
+      ∙ given-at h labelPlace z (m .labelled) (m .label) (omega arith) l i y)
+
+  pub face-after : z < c → m .labelled < c → Given (λ x. fieldAt f x facePlace) (λ x. fieldAt (marked f z m) x facePlace) z (m .labelled) (m .face)
+  face-after l i = put-given _ _ z (m .labelled) (m .face) (λ y. marked-faced y facePlace (omega arith) (λ e. omega arith)
+      ∙ given-at labelled-holds facePlace z (m .labelled) (m .face) (omega arith) l i y
+      ∙ put-at (put (λ x. fieldAt labelled x facePlace) z 0) (put (λ x. fieldAt f x facePlace) z 0) (m .labelled) (m .face) y
+      (put-at (λ x. fieldAt labelled x facePlace) (λ x. fieldAt f x facePlace) z 0 y (given-other h labelPlace z (m .labelled) (m .label) (omega arith) y facePlace (omega arith) (λ e. omega arith))))
 
   -- records of roots: z at `tree`, the others as they were
   cleared-root : z < c → (y : ℕ) → y ≢ z → fieldAt cleared y rootPlace ≡ fieldAt f y rootPlace
-  cleared-root l y d = set-same given-holds z rootPlace none l (omega arith) (λ x. fieldAt given x rootPlace) y refl
-      ∙ put-other (λ x. fieldAt given x rootPlace) z none y d
-      ∙ set-other zeroed-holds labelled labelPlace label (omega arith) y rootPlace (omega arith) (λ e. omega arith)
-      ∙ set-other h z labelPlace 0 (omega arith) y rootPlace (omega arith) (λ e. omega arith)
+  cleared-root l y d = set-same faced-holds z rootPlace none l (omega arith) (λ x. fieldAt faced x rootPlace) y refl
+      ∙ put-other (λ x. fieldAt faced x rootPlace) z none y d ∙ faced-rest y rootPlace (omega arith) (λ e. omega arith) (λ e. omega arith)
 
-  pub root-after : z < c → (tree ≡ none) ⊎ (tree < c) → (y : ℕ) → y < c → y ≢ z
-      → fieldAt (marked f z labelled label tree) y rootPlace ≡ put (λ x. fieldAt f x rootPlace) tree z y
+  pub root-after : z < c → (m .tree ≡ none) ⊎ (m .tree < c) → (y : ℕ) → y < c → y ≢ z
+      → fieldAt (marked f z m) y rootPlace ≡ put (λ x. fieldAt f x rootPlace) (m .tree) z y
   unfolding marked
-  root-after l i y b d = set-link cleared-holds tree rootPlace z i (omega arith) (λ x. fieldAt f x rootPlace) y (λ e. omega (arith, h .most)) (cleared-root l y d)
+  root-after l i y b d = set-link cleared-holds (m .tree) rootPlace z i (omega arith) (λ x. fieldAt f x rootPlace) y (λ e. omega (arith, h .most)) (cleared-root l y d)

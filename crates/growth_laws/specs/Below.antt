@@ -18,7 +18,7 @@ use Rattle.table.specs.Capacity.{nodeLimit}
 use Rattle.table.specs.Table.{Table}
 use Rattle.table.specs.PlainTree.{root, plain}
 use Rattle.table.specs.Line.{Rooted, OnLine, Level}
-use Rattle.table.specs.Rules.{labelLimit, Recorded, Rules, numbered}
+use Rattle.table.specs.Rules.{labelLimit, faceLimit, Bounded, Recorded, Rules, numbered}
 use Rattle.join_laws.specs.Trees.{own-trees, stored, trees-within}
 
 -- row x joined as a leaf, one level below its parent
@@ -26,6 +26,7 @@ pub record JoinedLeaf (d : Table) (x : ℕ) : Type 0 where
   pub some : parent (d .layer) x ≢ none
   pub below : d .level x ≡ d .level (parent (d .layer) x) +ℤ pos 1
   pub labelled : d .label x ≤ labelLimit
+  pub faced : d .face x ≤ faceLimit
 
 -- the rows that P picks are those of t, whole trees with their lines, and all others of d joined as leaves
 pub record Grows (t d : Table) (P : ℕ → Type 0) : Type 0 where
@@ -34,6 +35,7 @@ pub record Grows (t d : Table) (P : ℕ → Type 0) : Type 0 where
   pub either : (x : ℕ) → x < d .layer .count → P x ⊎ ((P x → ⊥) × JoinedLeaf d x)
   pub sameLevel : (x : ℕ) → P x → d .level x ≡ t .level x
   pub sameLabel : (x : ℕ) → P x → d .label x ≡ t .label x
+  pub sameFace : (x : ℕ) → P x → d .face x ≡ t .face x
   pub sameRoot : (f : ℕ) → P f → parent (t .layer) f ≡ none → d .root f ≡ t .root f
   pub rootKept : (f : ℕ) → P f → parent (t .layer) f ≡ none → P (t .root f)
 
@@ -114,17 +116,22 @@ module _ {capacity : ℕ} {t d : Table} {P : ℕ → Type 0} (r : Rules capacity
         }
   ]
 
+  -- a column of labels or faces
+  bounded : {was′ now′ : ℕ → ℕ} {limit : ℕ} → Bounded t was′ limit → ((x : ℕ) → P x → now′ x ≡ was′ x) → ((x : ℕ) → JoinedLeaf d x → now′ x ≤ limit) → Bounded d now′ limit
+  bounded b same joined = record {
+    most = λ x l. elim (k .either x l) [ inl p ↦ rw (same x p) (b .most x (old p)) | inr q ↦ joined x (q .1) ];
+    root = λ f l e.
+        let p = first-old l e in
+        let z = first-was p e in
+        rw (k .sameRoot f p z) (same (t .root f) (k .rootKept f p z) ∙ b .root f (old p) z);
+  }
+
   pub grows-recorded : d .layer .count ≤ capacity → Recorded capacity d
   grows-recorded fits = record {
     trees = trees-within s fits;
     lines = record { root = rooted; level = levels };
-    labels = record {
-      most = λ x l. elim (k .either x l) [ inl p ↦ rw (k .sameLabel x p) (r .one .labels .most x (old p)) | inr q ↦ q .1 .labelled ];
-      root = λ f l e.
-          let p = first-old l e in
-          let z = first-was p e in
-          rw (k .sameRoot f p z) (k .sameLabel (t .root f) (k .rootKept f p z) ∙ r .one .labels .root f (old p) z);
-    };
+    labels = bounded (r .one .labels) (k .sameLabel) (λ x q. q .labelled);
+    faces = bounded (r .one .faces) (k .sameFace) (λ x q. q .faced);
   }
 
   -- Plain parents

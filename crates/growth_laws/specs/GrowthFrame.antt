@@ -1,6 +1,6 @@
 -- What a growth leaves as it was (02: "Rows outside that head and what lies below it stay unchanged, but for sizes on the chain, the source record, the
 -- upper row's next free number and the child links of the parent and its children"; "The screen counts the old source's panel among the changes outside the
--- head").
+-- head"; "the screen counts the old source's face as its panel").
 use mathlib.Core.Path.{_≡_}
 use mathlib.Core.Logic.{_≢_}
 use Prim.Native.Nat.{ℕ, _+_, _<_}
@@ -30,8 +30,9 @@ pub record GrowthFrame (c : ℕ) (t d : Table) (g : Growth) (h : ℕ) : Type 0 w
   pub node : (x : ℕ) → Outside t d h x → SameNode (t .layer) (d .layer) x
   pub place : (x : ℕ) → Outside t d h x → SamePlace (t .layer) (d .layer) x
   pub level : (x : ℕ) → Outside t d h x → d .level x ≡ t .level x
-  -- the label, but of an old root that takes an opening
+  -- the label and the face, but of an old root that takes an opening
   pub labelKept : (x : ℕ) → Outside t d h x → x ≢ openedBy g → d .label x ≡ t .label x
+  pub faceKept : (x : ℕ) → Outside t d h x → x ≢ openedBy g → d .face x ≡ t .face x
   -- the size, but on the chain, the rows above the head in the compressed tree, where it is one more
   pub sizeKept : (x : ℕ) → Outside t d h x → ¬ Anc (upper (d .layer)) x h → size (d .layer) x ≡ size (t .layer) x
   pub sizeChain : (x : ℕ) → Outside t d h x → Anc (upper (d .layer)) x h → size (d .layer) x ≡ size (t .layer) x + 1

@@ -14,19 +14,23 @@ use Rattle.join_laws.specs.Joined.{SameNode, SamePlace}
 use Rattle.join_laws.specs.JoinedLinks.{last-child}
 use Rattle.join_laws.specs.KeptLaws.{kept-same, kept-trans}
 use Rattle.join_laws.specs.Lone.{Kept}
-use Rattle.growth_laws.specs.Growth.{Growth, parentOf, treeOf}
-use Rattle.growth_laws.specs.LabelLaws.{label-kept}
+use Rattle.growth_laws.specs.Growth.{Growth, parentOf, openingOf, treeOf}
+use Rattle.growth_laws.specs.ColumnLaws.{after-kept}
 use Rattle.growth_laws.specs.Grown.{Grown}
 use Rattle.growth_laws.specs.GrownLaws.{planted, other}
 use Rattle.growth_laws.specs.GrowthFrame.{Untouched, Outside, GrowthFrame}
 
 pub untouched-same : {t : Table} {x : ℕ} → Untouched t t x
-untouched-same = record { row = kept-same; marks = record { sameLabel = refl; sameLevel = refl }; sameRoot = refl }
+untouched-same = record { row = kept-same; marks = record { sameLabel = refl; sameFace = refl; sameLevel = refl }; sameRoot = refl }
 
 pub untouched-trans : {t d e : Table} {x : ℕ} → Untouched t d x → Untouched d e x → Untouched t e x
 untouched-trans a b = record {
   row = kept-trans (a .row) (b .row);
-  marks = record { sameLabel = b .marks .sameLabel ∙ a .marks .sameLabel; sameLevel = b .marks .sameLevel ∙ a .marks .sameLevel };
+  marks = record {
+    sameLabel = b .marks .sameLabel ∙ a .marks .sameLabel;
+    sameFace = b .marks .sameFace ∙ a .marks .sameFace;
+    sameLevel = b .marks .sameLevel ∙ a .marks .sameLevel;
+  };
   sameRoot = b .sameRoot ∙ a .sameRoot;
 }
 
@@ -70,7 +74,8 @@ module _ {c : ℕ} {t d : Table} {g : Growth} {h : ℕ} (r : Numbered (t .layer)
     node = λ x o. node-same o;
     place = λ x o. place-same o;
     level = λ x o. k .levels x (o .inUse);
-    labelKept = λ x o n. k .labels x (o .inUse) ∙ label-kept t g n;
+    labelKept = λ x o n. k .labels x (o .inUse) ∙ after-kept (t .label) (openingOf g) g n;
+    faceKept = λ x o n. k .faces x (o .inUse) ∙ after-kept (t .face) 0 g n;
     sizeKept = λ x o n. frame .sizeRest x (old o) (o .apart) n ∙ kept o .sameSize;
     sizeChain = λ x o a. frame .sizeAbove x (old o) (o .apart) a ∙ ap (λ (s : ℕ). s + 1) (kept o .sameSize);
     rootKept = λ x o n. k .roots x (o .inUse) ∙ (rw (says-false (says-eqb x (treeOf t g)) n) refl);

@@ -1,6 +1,6 @@
 -- Growth and first nodes keep the rules of inspection, and their plain trees are one step of the plain list on.
 use mathlib.Core.Path.{_≡_, refl, ap, sym, _∙_}
-use mathlib.Core.Bool.{Bool}
+use mathlib.Core.Bool.{Bool, true}
 use mathlib.Core.Logic.{_⊎_, inl, inr, _≢_}
 use Prim.Native.Nat.{ℕ, _≤_, _<_}
 use native.Mathlib.Decide.{ℕ-discrete}
@@ -20,11 +20,11 @@ use Rattle.table.specs.Capacity.{nodeLimit}
 use Rattle.table.specs.Table.{Table}
 use Rattle.table.specs.PlainTree.{root as rootIn, plain}
 use Rattle.table.specs.Line.{Rooted, OnLine, Level}
-use Rattle.table.specs.Rules.{labelLimit, Rules, numbered, rules-of}
+use Rattle.table.specs.Rules.{labelLimit, faceLimit, Bounded, Rules, numbered, rules-of}
 use Rattle.join_laws.specs.ExtendedLaws.{old-or-new, extended-numbered, extended-parent, extended-lone, extended-older}
 use Rattle.join_laws.specs.Trees.{own-trees, stored, trees-within}
-use Rattle.growth_laws.specs.Growth.{Growth, leaf, root, Opens, Named, named-leaf, named-root}
-use Rattle.growth_laws.specs.LabelLaws.{label-other, label-most}
+use Rattle.growth_laws.specs.Growth.{Growth, leaf, root, Opens, Named, named-leaf, named-root, columnAfter}
+use Rattle.growth_laws.specs.ColumnLaws.{after-other, after-most, opens-most}
 use Rattle.growth_laws.specs.Grown.{Grown, Started}
 use Rattle.growth_laws.specs.GrownLaws.{growth-numbered, growth-count, parent-old, parent-new, growth-older, new-some}
 use Rattle.growth_laws.specs.PlainStep.{PlainStep, PlainStart}
@@ -32,8 +32,8 @@ use Rattle.growth_laws.specs.Below.{Grows, grows-recorded, plain-old, pl
 
 -- A leaf
 
-module _ {capacity : ℕ} {t d : Table} {v f h : ℕ} (r : Rules capacity t) (small : capacity ≤ nodeLimit) (room : t .layer .count < capacity)
-    (l : v < t .layer .count) (i : 1 ≤ f) (j : f ≤ labelLimit) (k : Grown t d (leaf v f) h) where
+module _ {capacity : ℕ} {t d : Table} {v f s h : ℕ} (r : Rules capacity t) (small : capacity ≤ nodeLimit) (room : t .layer .count < capacity)
+    (l : v < t .layer .count) (i : 1 ≤ f) (j : f ≤ labelLimit) (m : s ≤ faceLimit) (k : Grown t d (leaf v f s) h) where
   num : Numbered (t .layer)
   num = numbered r small
 
@@ -52,11 +52,13 @@ module _ {capacity : ℕ} {t d : Table} {v f h : ℕ} (r : Rules capacity t) (sm
           some = new-some num k;
           below = rw (parent-new num k, k .levels v l) (k .levelNew);
           labelled = rw (k .labelNew) j;
+          faced = rw (k .faceNew) m;
         },
       )
     ];
     sameLevel = k .levels;
     sameLabel = k .labels;
+    sameFace = k .faces;
     sameRoot = λ x b _. leaf-root x b;
     rootKept = λ x b e. r .one .lines .root x b e .inUse;
   }
@@ -64,13 +66,15 @@ module _ {capacity : ℕ} {t d : Table} {v f h : ℕ} (r : Rules capacity t) (sm
   leaf-rules : Rules capacity d
   leaf-rules = rules-of (grows-recorded r small (growth-numbered num k) leaf-grows (omega (arith, growth-count num k))) (growth-numbered num k)
 
-  leaf-plain : PlainStep t d (leaf v f)
+  leaf-plain : PlainStep t d (leaf v f s)
   leaf-plain = record {
     count = growth-count num k;
     parentOld = plain-old r small (growth-numbered num k) leaf-grows;
     parentNew = plain-joined r small (growth-numbered num k) leaf-grows (t .layer .count) (omega (arith, growth-count num k)) (λ o. omega arith) ∙ parent-new num k;
     labelOld = k .labels;
     labelNew = k .labelNew;
+    faceOld = k .faces;
+    faceNew = k .faceNew;
   }
 
 -- A new root
@@ -191,22 +195,28 @@ module _ {capacity : ℕ} {t d : Table} {q opening h : ℕ} {named : Bool} (r : 
       let s = r .one .lines .root x o e in
       n (sym (top-is was (s .inUse) (record { over = s .over; top = e })) ∙ ap (first (t .layer)) z)
 
+  -- a column of labels or faces: that of the old root changes where it is opened, and the new root has 0
+  bounded : {was′ now′ : ℕ → ℕ} {limit : ℕ} (o : ℕ) → Bounded t was′ limit → (named ≡ true → o ≤ limit)
+      → ((x : ℕ) → x < t .layer .count → now′ x ≡ columnAfter (root q named opening) was′ o x) → now′ (t .layer .count) ≡ 0 → Bounded d now′ limit
+  bounded {was′} {now′} o b m same new = record {
+    most = λ x i. elim (old-or-new (growth-count numq k) x i) [
+      | inl p ↦ rw (same x p) (after-most was′ o q named opening m (b .most x p))
+      | inr e ↦ rw (e, new) (omega arith)
+    ];
+    root = λ x i e. let p = first-old i e in elim (ℕ-discrete x f) [
+      | yes z ↦ ap (λ (y : ℕ). now′ (d .root y)) z ∙ ap now′ root-here ∙ new
+      | no n ↦
+          let w = sym (parent-old numq k x p) ∙ e in
+          ap now′ (root-other x p n) ∙ same (t .root x) (r .one .lines .root x p w .inUse) ∙ after-other was′ o q named opening (other-root p w n) ∙ b .root x p w
+    ];
+  }
+
   root-rules : Rules capacity d
   root-rules = rules-of record {
     trees = trees-within (growth-numbered numq k) (omega (arith, growth-count numq k));
     lines = record { root = rooted; level = levels };
-    labels = record {
-      most = λ x b. elim (old-or-new (growth-count numq k) x b) [
-        | inl o ↦ rw (k .labels x o) (label-most t q through (r .one .labels .most x o))
-        | inr e ↦ rw (e, k .labelNew) (omega arith)
-      ];
-      root = λ x b e. let o = first-old b e in elim (ℕ-discrete x f) [
-        | yes z ↦ ap (λ (y : ℕ). d .label (d .root y)) z ∙ ap (d .label) root-here ∙ k .labelNew
-        | no n ↦
-            let w = sym (parent-old numq k x o) ∙ e in
-            ap (d .label) (root-other x o n) ∙ k .labels (t .root x) (r .one .lines .root x o w .inUse) ∙ label-other t q named opening (other-root o w n) ∙ r .one .labels .root x o w
-      ];
-    };
+    labels = bounded opening (r .one .labels) (opens-most through) (k .labels) (k .labelNew);
+    faces = bounded 0 (r .one .faces) (λ _. omega arith) (k .faces) (k .faceNew);
   } (growth-numbered numq k)
 
   -- plain parents: in the tree that grows by the new root, in the others by theirs
@@ -248,6 +258,8 @@ module _ {capacity : ℕ} {t d : Table} {q opening h : ℕ} {named : Bool} (r : 
     parentNew = plain-new;
     labelOld = k .labels;
     labelNew = k .labelNew;
+    faceOld = k .faces;
+    faceNew = k .faceNew;
   }
 
 -- A first node
@@ -314,6 +326,19 @@ module _ {capacity : ℕ} {t d : Table} (r : Rules capacity t) (small : capacity
     }
   ]
 
+  started-bounded : {was′ now′ : ℕ → ℕ} {limit : ℕ} → Bounded t was′ limit → ((x : ℕ) → x < t .layer .count → now′ x ≡ was′ x) → now′ (t .layer .count) ≡ 0
+      → Bounded d now′ limit
+  started-bounded {was′} {now′} b same new = record {
+    most = λ x i. elim (old-or-new (k .extended .count) x i) [
+      | inl o ↦ rw (same x o) (b .most x o)
+      | inr z ↦ rw (z, new) (omega arith)
+    ];
+    root = λ x i e. elim (old-or-new (k .extended .count) x i) [
+      | inl o ↦ let w = was-first o e in ap now′ (k .roots x o) ∙ same (t .root x) (r .one .lines .root x o w .inUse) ∙ b .root x o w
+      | inr z ↦ ap (λ (y : ℕ). now′ (d .root y)) z ∙ ap now′ (k .rootNew) ∙ new
+    ];
+  }
+
   pub start-keeps-rules : Rules capacity d
   start-keeps-rules = rules-of record {
     trees = trees-within numd (omega (arith, k .extended .count));
@@ -326,18 +351,8 @@ module _ {capacity : ℕ} {t d : Table} (r : Rules capacity t) (small : capacity
       ];
       level = started-levels;
     };
-    labels = record {
-      most = λ x b. elim (old-or-new (k .extended .count) x b) [
-        | inl o ↦ rw (k .marks x o .sameLabel) (r .one .labels .most x o)
-        | inr z ↦ rw (z, k .labelNew) (omega arith)
-      ];
-      root = λ x b e. elim (old-or-new (k .extended .count) x b) [
-        | inl o ↦
-            let w = was-first o e in
-            ap (d .label) (k .roots x o) ∙ k .marks (t .root x) (r .one .lines .root x o w .inUse) .sameLabel ∙ r .one .labels .root x o w
-        | inr z ↦ ap (λ (y : ℕ). d .label (d .root y)) z ∙ ap (d .label) (k .rootNew) ∙ k .labelNew
-      ];
-    };
+    labels = started-bounded (r .one .labels) (λ x o. k .marks x o .sameLabel) (k .labelNew);
+    faces = started-bounded (r .one .faces) (λ x o. k .marks x o .sameFace) (k .faceNew);
   } numd
 
   pub start-plain : PlainStart t d
@@ -352,6 +367,8 @@ module _ {capacity : ℕ} {t d : Table} (r : Rules capacity t) (small : capacity
         ap (λ (y : ℕ). plainParent (parent (d .layer)) (depth (d .layer)) y (t .layer .count)) (ap (d .root) (top-is after fresh-in fresh-first) ∙ k .rootNew) ∙ plain-is after fresh-in fresh-in top;
     labelOld = λ x b. k .marks x b .sameLabel;
     labelNew = k .labelNew;
+    faceOld = λ x b. k .marks x b .sameFace;
+    faceNew = k .faceNew;
   }
 
 -- A growth
@@ -361,12 +378,12 @@ module _ {capacity : ℕ} {t d : Table} {h : ℕ} (r : Rules capacity t) (small 
   growth-keeps-rules {g} k = go (k .named) k
     where
       go : {g : Growth} → Named t g → Grown t d g h → Rules capacity d
-      go (named-leaf l i j) k = leaf-rules r small room l i j k
+      go (named-leaf l i j m) k = leaf-rules r small room l i j m k
       go (named-root l e o) k = root-rules r small room l e o k
 
   pub growth-plain : {g : Growth} → Grown t d g h → PlainStep t d g
   growth-plain {g} k = go (k .named) k
     where
       go : {g : Growth} → Named t g → Grown t d g h → PlainStep t d g
-      go (named-leaf l i j) k = leaf-plain r small room l i j k
+      go (named-leaf l i j m) k = leaf-plain r small room l i j m k
       go (named-root l e o) k = root-plain r small room l e o k

@@ -1,4 +1,4 @@
--- What a growth decides before its first store: the refusals in their order (first node 3, 2, 4; leaf 3, 1, 5, 2, 4; new root over x 3, 1, 5, 4, 10, 2,
+-- What a growth decides before its first store: the refusals in their order (first node 3, 2, 4; leaf 3, 1, 5, 13, 2, 4; new root over x 3, 1, 5, 4, 10, 2,
 -- 4; 01's new root 3, 5, 2, 4), then the plan of a row that joins.
 use mathlib.Core.Bool.{Bool, true, false, _&&_, not}
 use Prim.Native.Nat.{ℕ}
@@ -7,16 +7,16 @@ use lib.IntN.{pos, _+ℤ_, _-ℤ_}
 use Rattle.laws.specs.Test.{pick}
 use Rattle.tree_laws.specs.Ancestor.{none}
 use Rattle.table.specs.declared.refusal.Refusal.{Refusal}
-use Rattle.table.specs.declared.refusal.Refusal.the-variants.{UnknownNode, Full, Misfit, Corrupt, BadLabel, NotRoot}
+use Rattle.table.specs.declared.refusal.Refusal.the-variants.{UnknownNode, Full, Misfit, Corrupt, BadLabel, NotRoot, BadFace}
 use Rattle.table.specs.declared.state.State.{State}
 use Rattle.table.specs.Parts.{Parts, levelAt}
 use Rattle.table.specs.Capacity.{capacityOf, onFit}
 use Rattle.table.specs.State.{isStanding}
 use Rattle.table.specs.Tree.{treeAt, rootAt}
-use Rattle.table.specs.Rules.{labelLimit}
+use Rattle.table.specs.Rules.{labelLimit, faceLimit}
 use Rattle.growth_plan.specs.declared.row.Planned.{Planned}
 use Rattle.growth_plan.specs.declared.row.Planned.the-variants.{Start, Refuse}
-use Rattle.growth_plan.specs.PlannedRow.{plannedRow}
+use Rattle.growth_plan.specs.PlannedRow.{marksOf, plannedRow}
 use Rattle.growth_plan.specs.Level.{levelFrom, onLevel}
 
 -- refused unless a test holds
@@ -26,27 +26,31 @@ provided b r p = pick b p (Refuse r)
 abbrev pub isLabel : ℕ → Bool
 isLabel label = leb 1 label && leb label labelLimit
 
+abbrev pub isFace : ℕ → Bool
+isFace face = leb face faceLimit
+
 -- an opening, the label that an old root takes, is looked at where one is named (02: "refusal 5 applies where it does")
 abbrev pub isOpening : Bool → ℕ → Bool
 isOpening true opening = isLabel opening
 isOpening false opening = true
 
 -- a leaf in parts that fit the capacity c; the root of the parent's tree is looked at, 01's "source not below the count"
-unfoldable pub leafWithin : Parts → ℕ → ℕ → State → ℕ → ℕ → Planned
-leafWithin t c scratch s parent label =
+unfoldable pub leafWithin : Parts → ℕ → ℕ → State → ℕ → ℕ → ℕ → Planned
+leafWithin t c scratch s parent label face =
     provided (eqb scratch c) Misfit
     (provided (ltb parent (s .count)) UnknownNode
     (provided (isLabel label) BadLabel
+    (provided (isFace face) BadFace
     (provided (not (eqb (s .count) c)) Full
     (provided (isStanding c s) Corrupt
     (provided (not (eqb (rootAt (t .fields) (t .ancestors) (s .count) parent) none)) Corrupt
     (onLevel (levelFrom (levelAt (t .levels) parent) (levelAt (t .levels) parent +ℤ pos 1))
-    (λ level. plannedRow (t .fields) (t .numbers) (t .ancestors) (s .count) (s .count) parent level (s .count) label none)
-    (Refuse Corrupt)))))))
+    (λ level. plannedRow (t .fields) (t .numbers) (t .ancestors) (s .count) (s .count) parent (marksOf level (s .count) label face none))
+    (Refuse Corrupt))))))))
 
--- a leaf of this label under this parent, with a scratch of this length
-unfoldable pub leafPlan : Parts → ℕ → State → ℕ → ℕ → Planned
-leafPlan t scratch s parent label = onFit (capacityOf t) (λ c. leafWithin t c scratch s parent label) (Refuse Misfit)
+-- a leaf of this label and face under this parent, with a scratch of this length
+unfoldable pub leafPlan : Parts → ℕ → State → ℕ → ℕ → ℕ → Planned
+leafPlan t scratch s parent label face = onFit (capacityOf t) (λ c. leafWithin t c scratch s parent label face) (Refuse Misfit)
 
 -- a first node in parts that fit the capacity c
 unfoldable pub firstWithin : ℕ → ℕ → State → Planned
@@ -59,11 +63,13 @@ firstWithin c scratch s =
 unfoldable pub firstPlan : Parts → ℕ → State → Planned
 firstPlan t scratch s = onFit (capacityOf t) (λ c. firstWithin c scratch s) (Refuse Misfit)
 
--- a new root over r, the root of the tree whose first row is tree: where an opening is named, r takes it as its label, else the new row takes label 0
+-- a new root over r, the root of the tree whose first row is tree: where an opening is named, r takes it as its label, else the new row takes label 0; the
+-- face is the front (02: "tag 1 means front, as do sources, openings and doors")
 unfoldable pub rootOver : Parts → State → ℕ → ℕ → Bool → ℕ → Planned
 rootOver t s tree r named opening =
     onLevel (levelFrom (levelAt (t .levels) r) (levelAt (t .levels) r -ℤ pos 1))
-    (λ level. plannedRow (t .fields) (t .numbers) (t .ancestors) (s .count) (s .count) r level (pick named r (s .count)) (pick named opening 0) tree)
+    (λ level. plannedRow (t .fields) (t .numbers) (t .ancestors) (s .count) (s .count) r
+    (marksOf level (pick named r (s .count)) (pick named opening 0) 0 tree))
     (Refuse Corrupt)
 
 -- a new root over x in parts that fit the capacity c

@@ -11,7 +11,7 @@ use borrow.Author.Tests.{eq-eqb, ne-eqb, lt-ltb, le-ltb}
 use Rattle.laws.specs.Test.{pick, says-get}
 use Rattle.tree_laws.specs.Ancestor.{none}
 use Rattle.table.specs.declared.capacity.Fit.the-variants.{Capacity, Misfit as NoFit}
-use Rattle.table.specs.declared.refusal.Refusal.the-variants.{UnknownNode, Full, Misfit, Corrupt, BadLabel, NotRoot}
+use Rattle.table.specs.declared.refusal.Refusal.the-variants.{UnknownNode, Full, Misfit, Corrupt, BadLabel, NotRoot, BadFace}
 use Rattle.table.specs.declared.state.State.{State}
 use Rattle.layer.specs.Layout.{fieldStride, numberStride}
 use Rattle.table.specs.Parts.{Parts, levelAt}
@@ -22,11 +22,12 @@ use Rattle.table.specs.StateLaws.{says-standing}
 use Rattle.table.specs.Tree.{treeAt, rootOf, rootAt}
 use Rattle.growth_plan.specs.declared.row.Planned.the-variants.{Start, Refuse}
 use Rattle.layer.specs.Checked.{Holds}
-use Rattle.growth_plan.specs.PlannedRow.{plannedRow}
+use Rattle.growth_plan.specs.PlannedRow.{marksOf, plannedRow}
 use Rattle.growth_plan.specs.declared.level.Level.the-variants.{At, Out}
 use Rattle.growth_plan.specs.Level.{levelFrom}
 use Rattle.growth_plan.specs.Plan.{
   isLabel,
+  isFace,
   isOpening,
   leafWithin,
   leafPlan,
@@ -55,50 +56,55 @@ root-read f a n x e d = d ∙ ap (rootOf f n) e
 
 -- a leaf ------------------------------------------------------------------------------
 
-module _ (t : Parts) (scratch : ℕ) (s : State) (p label : ℕ) where
-  pub leaf-misfit : NoFit ≡ capacityOf t → Refuse Misfit ≡ leafPlan t scratch s p label
+module _ (t : Parts) (scratch : ℕ) (s : State) (p label face : ℕ) where
+  pub leaf-misfit : NoFit ≡ capacityOf t → Refuse Misfit ≡ leafPlan t scratch s p label face
   unfolding leafPlan
   leaf-misfit e = rw (← e)
 
   module _ (c : ℕ) (fit : Capacity c ≡ capacityOf t) where
-    pub leaf-scratch : scratch ≢ c → Refuse Misfit ≡ leafPlan t scratch s p label
+    pub leaf-scratch : scratch ≢ c → Refuse Misfit ≡ leafPlan t scratch s p label face
     unfolding leafPlan leafWithin
     leaf-scratch a = rw (← fit, ne-eqb scratch c a)
 
     module _ (a : scratch ≡ c) where
-      pub leaf-unknown : s .count ≤ p → Refuse UnknownNode ≡ leafPlan t scratch s p label
+      pub leaf-unknown : s .count ≤ p → Refuse UnknownNode ≡ leafPlan t scratch s p label face
       unfolding leafPlan leafWithin
       leaf-unknown b = rw (← fit, eq-eqb scratch c a, le-ltb p (s .count) b)
 
       module _ (b : p < s .count) where
-        pub leaf-label : isLabel label ≡ false → Refuse BadLabel ≡ leafPlan t scratch s p label
+        pub leaf-label : isLabel label ≡ false → Refuse BadLabel ≡ leafPlan t scratch s p label face
         unfolding leafPlan leafWithin
         leaf-label d = rw (← fit, eq-eqb scratch c a, lt-ltb p (s .count) b, d)
 
         module _ (d : isLabel label ≡ true) where
-          pub leaf-full : s .count ≡ c → Refuse Full ≡ leafPlan t scratch s p label
+          pub leaf-face : isFace face ≡ false → Refuse BadFace ≡ leafPlan t scratch s p label face
           unfolding leafPlan leafWithin
-          leaf-full e = rw (← fit, eq-eqb scratch c a, lt-ltb p (s .count) b, d, eq-eqb (s .count) c e)
+          leaf-face f = rw (← fit, eq-eqb scratch c a, lt-ltb p (s .count) b, d, f)
 
-          module _ (e : s .count ≢ c) where
-            pub leaf-fallen : isStanding c s ≡ false → Refuse Corrupt ≡ leafPlan t scratch s p label
+          module _ (f : isFace face ≡ true) where
+            pub leaf-full : s .count ≡ c → Refuse Full ≡ leafPlan t scratch s p label face
             unfolding leafPlan leafWithin
-            leaf-fallen g = rw (← fit, eq-eqb scratch c a, lt-ltb p (s .count) b, d, ne-eqb (s .count) c e, g)
+            leaf-full e = rw (← fit, eq-eqb scratch c a, lt-ltb p (s .count) b, d, f, eq-eqb (s .count) c e)
 
-            module _ (g : isStanding c s ≡ true) where
-              pub leaf-lost : rootAt (t .fields) (t .ancestors) (s .count) p ≡ none → Refuse Corrupt ≡ leafPlan t scratch s p label
+            module _ (e : s .count ≢ c) where
+              pub leaf-fallen : isStanding c s ≡ false → Refuse Corrupt ≡ leafPlan t scratch s p label face
               unfolding leafPlan leafWithin
-              leaf-lost r = rw (← fit, eq-eqb scratch c a, lt-ltb p (s .count) b, d, ne-eqb (s .count) c e, g, eq-eqb (rootAt (t .fields) (t .ancestors) (s .count) p) none r)
+              leaf-fallen g = rw (← fit, eq-eqb scratch c a, lt-ltb p (s .count) b, d, f, ne-eqb (s .count) c e, g)
 
-              module _ (r : rootAt (t .fields) (t .ancestors) (s .count) p ≢ none) where
-                pub leaf-out : Out ≡ levelFrom (levelAt (t .levels) p) (levelAt (t .levels) p +ℤ pos 1) → Refuse Corrupt ≡ leafPlan t scratch s p label
+              module _ (g : isStanding c s ≡ true) where
+                pub leaf-lost : rootAt (t .fields) (t .ancestors) (s .count) p ≡ none → Refuse Corrupt ≡ leafPlan t scratch s p label face
                 unfolding leafPlan leafWithin
-                leaf-out h = rw (← fit, eq-eqb scratch c a, lt-ltb p (s .count) b, d, ne-eqb (s .count) c e, g, ne-eqb (rootAt (t .fields) (t .ancestors) (s .count) p) none r, ← h)
+                leaf-lost r = rw (← fit, eq-eqb scratch c a, lt-ltb p (s .count) b, d, f, ne-eqb (s .count) c e, g, eq-eqb (rootAt (t .fields) (t .ancestors) (s .count) p) none r)
 
-                pub leaf-row : (z : ℤ) → At z ≡ levelFrom (levelAt (t .levels) p) (levelAt (t .levels) p +ℤ pos 1)
-                    → plannedRow (t .fields) (t .numbers) (t .ancestors) (s .count) (s .count) p z (s .count) label none ≡ leafPlan t scratch s p label
-                unfolding leafPlan leafWithin
-                leaf-row z h = rw (← fit, eq-eqb scratch c a, lt-ltb p (s .count) b, d, ne-eqb (s .count) c e, g, ne-eqb (rootAt (t .fields) (t .ancestors) (s .count) p) none r, ← h)
+                module _ (r : rootAt (t .fields) (t .ancestors) (s .count) p ≢ none) where
+                  pub leaf-out : Out ≡ levelFrom (levelAt (t .levels) p) (levelAt (t .levels) p +ℤ pos 1) → Refuse Corrupt ≡ leafPlan t scratch s p label face
+                  unfolding leafPlan leafWithin
+                  leaf-out h = rw (← fit, eq-eqb scratch c a, lt-ltb p (s .count) b, d, f, ne-eqb (s .count) c e, g, ne-eqb (rootAt (t .fields) (t .ancestors) (s .count) p) none r, ← h)
+
+                  pub leaf-row : (z : ℤ) → At z ≡ levelFrom (levelAt (t .levels) p) (levelAt (t .levels) p +ℤ pos 1)
+                      → plannedRow (t .fields) (t .numbers) (t .ancestors) (s .count) (s .count) p (marksOf z (s .count) label face none) ≡ leafPlan t scratch s p label face
+                  unfolding leafPlan leafWithin
+                  leaf-row z h = rw (← fit, eq-eqb scratch c a, lt-ltb p (s .count) b, d, f, ne-eqb (s .count) c e, g, ne-eqb (rootAt (t .fields) (t .ancestors) (s .count) p) none r, ← h)
 
 -- a first node ------------------------------------------------------------------------
 
@@ -134,7 +140,8 @@ module _ (t : Parts) (s : State) (tree r : ℕ) (named : Bool) (opening : ℕ) w
   above-out h = rw (← h)
 
   pub above-row : (y : ℤ) → At y ≡ levelFrom (levelAt (t .levels) r) (levelAt (t .levels) r -ℤ pos 1)
-      → plannedRow (t .fields) (t .numbers) (t .ancestors) (s .count) (s .count) r y (pick named r (s .count)) (pick named opening 0) tree ≡ rootOver t s tree r named opening
+      → plannedRow (t .fields) (t .numbers) (t .ancestors) (s .count) (s .count) r
+      (marksOf y (pick named r (s .count)) (pick named opening 0) 0 tree) ≡ rootOver t s tree r named opening
   unfolding rootOver
   above-row y h = rw (← h)
 

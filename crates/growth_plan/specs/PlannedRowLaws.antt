@@ -2,20 +2,19 @@
 use mathlib.Core.Path.{_≡_}
 use mathlib.Core.List.{List}
 use Prim.Native.Nat.{ℕ}
-use lib.IntN.{ℤ}
 use Rattle.table.specs.declared.refusal.Refusal.the-variants.{Corrupt}
 use Rattle.join.specs.declared.seat.Seat.{Seat}
 use Rattle.join.specs.declared.seat.Seating.the-variants.{At, Corrupt as Astray}
 use Rattle.join.specs.Seat.{seatOf}
+use Rattle.growth_plan.specs.declared.row.Marks.{Marks}
 use Rattle.growth_plan.specs.declared.row.Planned.the-variants.{Grow, Refuse}
 use Rattle.growth_plan.specs.PlannedRow.{plannedRow}
 
-module _ (f m a : List ℕ) (n z p : ℕ) (level : ℤ) (labelled label tree : ℕ) where
-  pub no-seat : Astray ≡ seatOf f m a n z p → Refuse Corrupt ≡ plannedRow f m a n z p level labelled label tree
+module _ (f m a : List ℕ) (n z p : ℕ) (marks : Marks) where
+  pub no-seat : Astray ≡ seatOf f m a n z p → Refuse Corrupt ≡ plannedRow f m a n z p marks
   unfolding plannedRow
   no-seat e = rw (← e)
 
-  pub on-seat : (s : Seat) → At s ≡ seatOf f m a n z p
-      → Grow (record { seat = s; level = level; labelled = labelled; label = label; tree = tree }) ≡ plannedRow f m a n z p level labelled label tree
+  pub on-seat : (s : Seat) → At s ≡ seatOf f m a n z p → Grow (record { seat = s; marks = marks }) ≡ plannedRow f m a n z p marks
   unfolding plannedRow
   on-seat s e = rw (← e)

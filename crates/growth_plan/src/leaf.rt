@@ -1,11 +1,13 @@
 // A new leaf before the first store: its refusals in their order, and its plan.
 use crate::level::Level;
 use crate::level::leaf_level;
+use crate::row::Marks;
 use crate::row::Planned;
 use crate::row::plan_row;
 use layer::layout::NONE;
 use table::capacity::Fit;
 use table::capacity::capacity;
+use table::layout::LARGEST_FACE;
 use table::layout::LARGEST_LABEL;
 use table::level::level;
 use table::refusal::Refusal;
@@ -16,13 +18,20 @@ use table::tree::tree_of;
 ghost use mathlib.Core.Path.{_≡_};
 ghost use lib.ListN.{length};
 ghost use Rattle.table.specs.Parts.{partsOf};
-ghost use Rattle.growth_plan.specs.Plan.{isLabel, leafPlan};
+ghost use Rattle.growth_plan.specs.Plan.{isLabel, isFace, leafPlan};
 
 // A label that a leaf may have.
 pub fn is_label(label: u16) -> bool
     ensures { λ r. ⌜ r ≡ isLabel label ⌝ }
 {
     (1 <= label) & (label <= LARGEST_LABEL)
+}
+
+// A face, front or back.
+fn is_face(face: u16) -> bool
+    ensures { λ r. ⌜ r ≡ isFace face ⌝ }
+{
+    face <= LARGEST_FACE
 }
 
 // Why a leaf is refused, or its plan.
@@ -35,8 +44,9 @@ pub fn plan_leaf(
     state: State,
     parent: u16,
     label: u16,
+    face: u16,
 ) -> Planned
-    ensures { λ r. ⌜ r ≡ leafPlan (partsOf (now (fields .entry)) (now (numbers .entry)) (now (levels .entry)) (now (ancestors .entry))) (length (now (scratch .entry))) state parent label ⌝ }
+    ensures { λ r. ⌜ r ≡ leafPlan (partsOf (now (fields .entry)) (now (numbers .entry)) (now (levels .entry)) (now (ancestors .entry))) (length (now (scratch .entry))) state parent label face ⌝ }
 {
     let Fit::Capacity(cap) = capacity(fields, numbers, levels, ancestors) else {
         return Planned::Refuse(Refusal::Misfit);
@@ -50,6 +60,9 @@ pub fn plan_leaf(
     if !is_label(label) {
         return Planned::Refuse(Refusal::BadLabel);
     }
+    if !is_face(face) {
+        return Planned::Refuse(Refusal::BadFace);
+    }
     if (state.count as usize) == cap {
         return Planned::Refuse(Refusal::Full);
     }
@@ -62,6 +75,13 @@ pub fn plan_leaf(
     let Level::At(at) = leaf_level(level(levels, parent)) else {
         return Planned::Refuse(Refusal::Corrupt);
     };
+    let marks = Marks {
+        level: at,
+        labelled: state.count,
+        label: label,
+        face: face,
+        tree: NONE,
+    };
     plan_row(
         fields,
         numbers,
@@ -69,9 +89,6 @@ pub fn plan_leaf(
         state.count,
         state.count,
         parent,
-        at,
-        state.count,
-        label,
-        NONE,
+        marks,
     )
 }

@@ -2,6 +2,7 @@
 use crate::leaf::is_label;
 use crate::level::Level;
 use crate::level::root_level;
+use crate::row::Marks;
 use crate::row::Planned;
 use crate::row::plan_row;
 use layer::layout::NONE;
@@ -58,6 +59,13 @@ fn plan_above(
     let Level::At(at) = root_level(level(levels, r)) else {
         return Planned::Refuse(Refusal::Corrupt);
     };
+    let marks = Marks {
+        level: at,
+        labelled: if_named(named, r, state.count),
+        label: if_named(named, opening, 0),
+        face: 0,
+        tree: tree,
+    };
     plan_row(
         fields,
         numbers,
@@ -65,10 +73,7 @@ fn plan_above(
         state.count,
         state.count,
         r,
-        at,
-        if_named(named, r, state.count),
-        if_named(named, opening, 0),
-        tree,
+        marks,
     )
 }
 

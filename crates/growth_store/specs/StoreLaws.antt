@@ -11,8 +11,8 @@ use Rattle.growth_store.specs.Store.{marked, stored, planStored}
 
 pub store-parts : (t : Parts) (k : ℕ) (g : Plan) (f f′ m a : List ℕ) (l : List ℤ) (n : ℕ)
     → walked (written f m a) n ≡ joinedAt (written (t .fields) (t .numbers) (t .ancestors)) k (g .seat)
-    → f′ ≡ marked f (g .seat .leaf .row) (g .labelled) (g .label) (g .tree)
-    → l ≡ withLevel (t .levels) (g .seat .leaf .row) (g .level)
+    → f′ ≡ marked f (g .seat .leaf .row) (g .marks)
+    → l ≡ withLevel (t .levels) (g .seat .leaf .row) (g .marks .level)
     → stored (partsOf f′ m l a) n ≡ planStored t k g
 unfolding planStored
 store-parts t k g f f′ m a l n x y z = rw (← x, y, z)

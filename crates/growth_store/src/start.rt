@@ -1,6 +1,7 @@
 // The stores of a first node.
 use join::lone::stand_alone;
 use layer::write::put_field;
+use table::layout::FACE;
 use table::layout::LABEL;
 use table::layout::ROOT;
 use table::level::put_level;
@@ -10,7 +11,7 @@ ghost use Rattle.table.specs.Parts.{withLevel};
 ghost use Rattle.join.specs.Lone.{loneNumbers, loneEntries};
 ghost use Rattle.growth_store.specs.Start.{startedFields};
 
-// Row n stands alone, of label 0 and level 0, its own root.
+// Row n stands alone, of label 0, front and level 0, its own root.
 pub fn start(
     fields: &mut [u16],
     numbers: &mut [u64],
@@ -25,6 +26,7 @@ pub fn start(
 {
     stand_alone(fields, numbers, ancestors, n);
     put_field(fields, n, LABEL, 0);
+    put_field(fields, n, FACE, 0);
     put_field(fields, n, ROOT, n);
     put_level(levels, n, 0);
 }

@@ -16,7 +16,7 @@ use Rattle.inspect_laws.specs.Trees.{areTrees}
 use Rattle.inspect_laws.specs.Numbered.{isNumbered}
 use Rattle.inspect_tree.specs.Stored.{Stored}
 use Rattle.inspect_lines_laws.specs.Lines.{areLines}
-use Rattle.inspect_lines_laws.specs.Labels.{areLabels}
+use Rattle.inspect_lines_laws.specs.Bounded.{areBounded, areLabels, areFaces}
 use Rattle.inspect_lines.specs.Columns.{fieldTable, levelTable}
 use Rattle.inspect_tally.specs.Counts.{labels}
 use Rattle.inspect.specs.Inspects.{inspects}
@@ -51,9 +51,14 @@ module _ (p : Parts) (w : List ℕ) (s : State) (capacity : ℕ) where
 
       module _ (l : areLines (levelTable (p .fields) (p .levels) (s .count)) ≡ true) where
         pub stop-labels : areLabels (fieldTable (p .fields) (s .count)) ≡ false → false ≡ inspects capacity (tableOf p (s .count)) w
-        unfolding inspects isStanding areLines areLabels
+        unfolding inspects isStanding areLines areBounded
         stop-labels e = rw (a, b, l, e)
 
-        pub by-tally : {r : Bool} → areLabels (fieldTable (p .fields) (s .count)) ≡ true → r ≡ isTallied (labels (p .fields)) (s .count) w → r ≡ inspects capacity (tableOf p (s .count)) w
-        unfolding inspects isStanding areLines areLabels
-        by-tally e h = rw (a, b, l, e, h)
+        module _ (k : areLabels (fieldTable (p .fields) (s .count)) ≡ true) where
+          pub stop-faces : areFaces (fieldTable (p .fields) (s .count)) ≡ false → false ≡ inspects capacity (tableOf p (s .count)) w
+          unfolding inspects isStanding areLines areBounded
+          stop-faces e = rw (a, b, l, k, e)
+
+          pub by-tally : {r : Bool} → areFaces (fieldTable (p .fields) (s .count)) ≡ true → r ≡ isTallied (labels (p .fields)) (s .count) w → r ≡ inspects capacity (tableOf p (s .count)) w
+          unfolding inspects isStanding areLines areBounded
+          by-tally e h = rw (a, b, l, k, e, h)

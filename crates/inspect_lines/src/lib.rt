@@ -1,3 +1,3 @@
-// What rule 1 of inspection asks of a table beside its trees: lines and levels, and labels.
-pub mod labels;
+// What rule 1 of inspection asks of a table beside its trees: lines and levels, and labels and faces.
+pub mod bounded;
 pub mod lines;

@@ -1,3 +1,3 @@
 pub mod Lines
 pub mod LinesLaws
-pub mod Labels
+pub mod Bounded

@@ -13,8 +13,8 @@ use Rattle.tree_laws.specs.RerootLaws.{plain-parent}
 use Rattle.tree_laws.specs.SizeDepth.{depth-below}
 use Rattle.span.specs.Numbers.{reachOf}
 use Rattle.tree_laws.specs.Top.{top-anc}
-use Rattle.layer.specs.Layout.{fieldStride, parentPlace, treePlace}
-use Rattle.table.specs.Layout.{labelPlace, rootPlace}
+use Rattle.layer.specs.Layout.{fieldStride, parentPlace, depthPlace, treePlace}
+use Rattle.table.specs.Layout.{labelPlace, facePlace, rootPlace}
 use Rattle.table.specs.Parts.{Parts}
 use Rattle.layer.specs.Row.{fieldAt, entryAt}
 use Rattle.table.specs.Capacity.{Fits}
@@ -231,6 +231,10 @@ module _ {c : ℕ} {p : Parts} {n x v door : ℕ} (r : Rules c (tableOf p n)) (f
   same : (y j : ℕ) → j < fieldStride → j ≢ rootPlace → fieldAt (turnedLine n f₁ x v) y j ≡ fieldAt (p .fields) y j
   same y j i d = k₂ .rest y j i d ∙ k₁ .rest y j i d
 
+  -- what is neither the layer's nor a root
+  rest₃ : (y j : ℕ) → depthPlace < j → j < fieldStride → j ≢ rootPlace → fieldAt (partedRows tree n 0 w₂ .fields) y j ≡ fieldAt (p .fields) y j
+  rest₃ y j a b d = k₃ .rest y j a b ∙ same y j b d
+
   kept₂ : (y : ℕ) → Kept (t .layer) (layerIn w₂ n) y
   kept₂ y = record {
     sameParent = same y 0 (omega arith) (λ e. omega arith);
@@ -293,12 +297,14 @@ module _ {c : ℕ} {p : Parts} {n x v door : ℕ} (r : Rules c (tableOf p n)) (f
     roots = λ w l d. k₃ .rest w rootPlace (omega arith) (omega arith) ∙ k₂ .root w
         ∙ turned-off was n (λ y. fieldAt f₁ y rootPlace) x v w (h .inUse) deep (λ q. d (top-anc was (h .inUse) q))
         ∙ k₁ .off w (omega (arith, room)) (λ z. d (sym (entry-is w l) ∙ z));
-    labels = λ w l. k₃ .rest w labelPlace (omega arith) (omega arith) ∙ same w labelPlace (omega arith) (λ e. omega arith);
+    labels = λ w l. rest₃ w labelPlace (omega arith) (omega arith) (λ e. omega arith);
+    faces = λ w l. rest₃ w facePlace (omega arith) (omega arith) (λ e. omega arith);
     levels = λ w l. refl;
     unused = λ w i l. record {
       row = kept-trans (kept₂ w) (k₃ .high w (omega arith));
       marks = record {
-        sameLabel = k₃ .rest w labelPlace (omega arith) (omega arith) ∙ same w labelPlace (omega arith) (λ e. omega arith);
+        sameLabel = rest₃ w labelPlace (omega arith) (omega arith) (λ e. omega arith);
+        sameFace = rest₃ w facePlace (omega arith) (omega arith) (λ e. omega arith);
         sameLevel = refl;
       };
       sameRoot = k₃ .rest w rootPlace (omega arith) (omega arith) ∙ k₂ .root w

@@ -24,7 +24,7 @@ use Rattle.join_laws.specs.Lone.{Lone, Parted}
 use Rattle.join_laws.specs.LoneLaws.{parted-numbered}
 use Rattle.growth_laws.specs.GrowthFrame.{Untouched}
 use Rattle.growth_laws.specs.GrowthFrameLaws.{untouched-trans}
-use Rattle.link_laws.specs.Link.{target, labelled, Linkable, Linked}
+use Rattle.link_laws.specs.Link.{target, columnWith, Linkable, Linked}
 use Rattle.link_laws.specs.LinkFrame.{LinkFrame}
 use Rattle.link_laws.specs.LinkFrameLaws.{link-elsewhere}
 use Rattle.link_laws.specs.Order.{isOfTree, Order}
@@ -39,6 +39,7 @@ pub record Detached (c : ℕ) (p p₁ : Parts) (n x v : ℕ) : Type 0 where
   pub named : (w : ℕ) → w < n → first (tableOf p n .layer) w ≡ first (tableOf p n .layer) x → fieldAt (p₁ .fields) w rootPlace ≡ target (tableOf p n) x v w
   pub roots : (w : ℕ) → w < n → first (tableOf p n .layer) w ≢ first (tableOf p n .layer) x → fieldAt (p₁ .fields) w rootPlace ≡ fieldAt (p .fields) w rootPlace
   pub labels : (w : ℕ) → w < n → tableOf p₁ n .label w ≡ tableOf p n .label w
+  pub faces : (w : ℕ) → w < n → tableOf p₁ n .face w ≡ tableOf p n .face w
   pub levels : (w : ℕ) → w < n → tableOf p₁ n .level w ≡ tableOf p n .level w
   pub unused : (w : ℕ) → n ≤ w → w < c → Untouched (tableOf p n) (tableOf p₁ n) w
 
@@ -80,7 +81,7 @@ module _ {c : ℕ} {p p₁ : Parts} {n x v door : ℕ} (r : Rules c (tableOf p n
         (parent-in r (fit .most) (in-x r (fit .most) h l e) (some r (fit .most) h l e d) .inUse)
   ]
 
-  waits : Waits c p₁ n (target t x v) (t .label) (linkOrder t x)
+  waits : Waits c p₁ n (target t x v) (t .label) (t .face) (linkOrder t x)
   waits = record {
     fit = k .fit;
     room = r .one .trees .count;
@@ -89,13 +90,14 @@ module _ {c : ℕ} {p p₁ : Parts} {n x v door : ℕ} (r : Rules c (tableOf p n
     named = λ w m. k .named w (order .inside w m) (order .moved w m);
     under = λ w m. target-in w (order .inside w m) (order .moved w m);
     labels = λ w m. k .labels w (order .inside w m);
+    faces = λ w m. k .faces w (order .inside w m);
     shallow = λ y l i. elim (ℕ-discrete (first (t .layer) y) (first (t .layer) x)) [
       | yes e ↦ absurd (i (order .all y l e))
       | no d ↦ rw (k .levels y l, k .parted .kept y l (says-false (says-eqb (first (t .layer) y) (first (t .layer) x)) d) .sameDepth) (level-depth r (fit .most) y l)
     ];
   }
 
-  joined : Joined c p₁ (joinAll p₁ n x door (linkOrder t x) .parts) n (target t x v) (labelled t x door) (linkOrder t x) (joinAll p₁ n x door (linkOrder t x) .given)
+  joined : Joined c p₁ (joinAll p₁ n x door (linkOrder t x) .parts) n (target t x v) (columnWith (t .label) x door) (columnWith (t .face) x 0) (linkOrder t x) (joinAll p₁ n x door (linkOrder t x) .given)
   joined = joins-exact x door (linkOrder t x) waits (order-once r (fit .most) h order) (order-before r (fit .most) h order)
 
   pub link-fits : Fits c (joinAll p₁ n x door (linkOrder t x) .parts)
@@ -108,6 +110,7 @@ module _ {c : ℕ} {p p₁ : Parts} {n x v door : ℕ} (r : Rules c (tableOf p n
     count = refl;
     parted = k .parted;
     labels = k .labels;
+    faces = k .faces;
     levels = λ w l d. k .levels w l;
     order = linkOrder t x;
     ordered = order;

@@ -18,9 +18,9 @@ use Rattle.link_laws.specs.Order.{isOfTree, Order}
 abbrev pub target : Table → ℕ → ℕ → ℕ → ℕ
 target t x v w = pick (eqb w x) v (plain t w)
 
--- its label: its own, and the door's for the linked root
-abbrev pub labelled : Table → ℕ → ℕ → ℕ → ℕ
-labelled t x door w = pick (eqb w x) door (t .label w)
+-- a column after the link: the linked root x takes o, all others keep theirs
+abbrev pub columnWith : (ℕ → ℕ) → ℕ → ℕ → ℕ → ℕ
+columnWith column x o w = pick (eqb w x) o (column w)
 
 -- x is the root of its tree, v a row of another one, and `door`, the label that a linked root takes, goes from 1 to 9,999
 pub record Linkable (t : Table) (x v door : ℕ) : Type 0 where
@@ -38,10 +38,12 @@ pub record Linked (t d : Table) (x v door k : ℕ) : Type 0 where
   pub count : apart .layer .count ≡ t .layer .count
   pub parted : Parted (t .layer) (apart .layer) (isOfTree (t .layer) x)
   pub labels : (w : ℕ) → w < t .layer .count → apart .label w ≡ t .label w
+  pub faces : (w : ℕ) → w < t .layer .count → apart .face w ≡ t .face w
   pub levels : (w : ℕ) → w < t .layer .count → first (t .layer) w ≢ first (t .layer) x → apart .level w ≡ t .level w
   pub order : List ℕ
   pub ordered : Order t x order
-  pub joins : Joinings (target t x v) (labelled t x door) apart d order k
+  -- the linked root has the label of the door, and is front
+  pub joins : Joinings (target t x v) (columnWith (t .label) x door) (columnWith (t .face) x 0) apart d order k
   pub roots : (f : ℕ) → f < t .layer .count → first (t .layer) f ≢ first (t .layer) x → d .root f ≡ t .root f
 
 -- the rows of the linked tree are stored under their targets, the others where they were
@@ -49,10 +51,12 @@ pub record StoredLink (t d : Table) (x v : ℕ) : Type 0 where
   pub moved : (w : ℕ) → w < t .layer .count → first (t .layer) w ≡ first (t .layer) x → parent (d .layer) w ≡ target t x v w
   pub rest : (w : ℕ) → w < t .layer .count → first (t .layer) w ≢ first (t .layer) x → parent (d .layer) w ≡ parent (t .layer) w
 
--- the plain trees of d are those of t, but that x comes under v and takes the door's label
+-- the plain trees of d are those of t, but that x comes under v, takes the door's label and is front
 pub record PlainLink (t d : Table) (x v door : ℕ) : Type 0 where
   pub count : d .layer .count ≡ t .layer .count
   pub under : plain d x ≡ v
   pub parents : (w : ℕ) → w < t .layer .count → w ≢ x → plain d w ≡ plain t w
   pub labelled : d .label x ≡ door
   pub labels : (w : ℕ) → w < t .layer .count → w ≢ x → d .label w ≡ t .label w
+  pub faced : d .face x ≡ 0
+  pub faces : (w : ℕ) → w < t .layer .count → w ≢ x → d .face w ≡ t .face w

@@ -32,7 +32,7 @@ use Rattle.link_laws.specs.LinkLaws.{marks-rest}
 use Rattle.link_laws.specs.OrderLaws.{in-x, some}
 
 -- whole trees of which neither the rows that join nor their targets are
-pub joinings-spare : {target labelled : ℕ → ℕ} {t d : Table} {zs : List ℕ} {k : ℕ} {In : ℕ → Type 0} → Numbered (t .layer) → Joinings target labelled t d zs k
+pub joinings-spare : {target label face : ℕ → ℕ} {t d : Table} {zs : List ℕ} {k : ℕ} {In : ℕ → Type 0} → Numbered (t .layer) → Joinings target label face t d zs k
     → WholeTrees (t .layer) In → ((z : ℕ) → Member zs z → ¬ In z) → ((z : ℕ) → Member zs z → ¬ In (target z))
     → (x : ℕ) → x < t .layer .count → In x → Kept (t .layer) (d .layer) x
 joinings-spare r done w rows targets x l i = kept-same

@@ -17,7 +17,7 @@ use Rattle.layer.specs.Numbered.{Numbered}
 use Rattle.table.specs.Capacity.{nodeLimit}
 use Rattle.table.specs.Table.{Table}
 use Rattle.table.specs.PlainTree.{root, plain}
-use Rattle.table.specs.Rules.{labelLimit, Rules, numbered, rules-of}
+use Rattle.table.specs.Rules.{Bounded, Rules, numbered, rules-of}
 use Rattle.layer_laws.specs.Numbered.{InTree, first-is}
 use Rattle.table_laws.specs.LevelLaws.{treeParent, plain-tree, parent-in}
 use Rattle.join_laws.specs.Lag.{lag, worth, perJoin}
@@ -26,7 +26,7 @@ use Rattle.join_laws.specs.Trees.{own-trees, stored}
 use Rattle.growth_laws.specs.Below.{JoinedLeaf, Grows, grows-recorded, plain-old, plain-joined}
 use Rattle.growth_laws.specs.Grown.{SameMarks}
 use Rattle.link_laws.specs.JoiningsLaws.{joinings-numbered, joinings-pay, joinings-count, joinings-rows, joinings-rest, joinings-marks, Came, joinings-came}
-use Rattle.link_laws.specs.Link.{target, labelled, Linked, StoredLink, PlainLink}
+use Rattle.link_laws.specs.Link.{target, columnWith, Linked, StoredLink, PlainLink}
 use Rattle.link_laws.specs.Order.{treeRows}
 use Rattle.link_laws.specs.OrderLaws.{in-x, steps-depth-under, order-once, order-before, order-length}
 
@@ -54,7 +54,11 @@ module _ {capacity : ℕ} {t d : Table} {x v door k : ℕ} (r : Rules capacity t
   pub marks-rest : {w : ℕ} → Stays w → SameMarks t d w
   marks-rest {w} p =
       let m = joinings-marks (q .joins) w (omega (arith, q .count, p .inside)) (unmoved p) in
-      record { sameLabel = m .sameLabel ∙ q .labels w (p .inside); sameLevel = m .sameLevel ∙ q .levels w (p .inside) (p .other) }
+      record {
+        sameLabel = m .sameLabel ∙ q .labels w (p .inside);
+        sameFace = m .sameFace ∙ q .faces w (p .inside);
+        sameLevel = m .sameLevel ∙ q .levels w (p .inside) (p .other);
+      }
 
   parent-rest : {w : ℕ} → Stays w → parent (d .layer) w ≡ parent (t .layer) w
   parent-rest {w} p = joinings-rest (q .joins) w (omega (arith, q .count, p .inside)) (unmoved p) .sameParent
@@ -63,14 +67,14 @@ module _ {capacity : ℕ} {t d : Table} {x v door k : ℕ} (r : Rules capacity t
   stays-up : {a w : ℕ} → Stays w → Anc (parent (t .layer)) a w → Stays a
   stays-up {a} {w} p h = record { inside = anc-in was (p .inside) h; other = λ e. p .other (sym (top-anc was (p .inside) h) ∙ e) }
 
-  came : {w : ℕ} → w < t .layer .count → first (t .layer) w ≡ first (t .layer) x → Came (target t x v) (labelled t x door) d w
+  came : {w : ℕ} → w < t .layer .count → first (t .layer) w ≡ first (t .layer) x → Came (target t x v) (columnWith (t .label) x door) (columnWith (t .face) x 0) d w
   came {w} l e = joinings-came (q .joins) (order-once r small (q .linkable) (q .ordered)) (order-before r small (q .linkable) (q .ordered)) w (q .ordered .all w l e)
 
   -- a row of the linked tree joined as a leaf
-  label-most : {w : ℕ} → w < t .layer .count → labelled t x door w ≤ labelLimit
-  label-most {w} l = elim (ℕ-discrete w x) [
-    | yes e ↦ rw (says-true (says-eqb w x) e) (q .linkable .most)
-    | no n ↦ rw (says-false (says-eqb w x) n) (r .one .labels .most w l)
+  within : {column : ℕ → ℕ} {limit : ℕ} (o : ℕ) → Bounded t column limit → o ≤ limit → {w : ℕ} → w < t .layer .count → columnWith column x o w ≤ limit
+  within o b m {w} l = elim (ℕ-discrete w x) [
+    | yes e ↦ rw (says-true (says-eqb w x) e) m
+    | no n ↦ rw (says-false (says-eqb w x) n) (b .most w l)
   ]
 
   moved : {w : ℕ} → w < t .layer .count → first (t .layer) w ≡ first (t .layer) x → JoinedLeaf d w
@@ -79,7 +83,8 @@ module _ {capacity : ℕ} {t d : Table} {x v door k : ℕ} (r : Rules capacity t
       record {
         some = row-some (stored (own-trees link-numbered)) (c .inUse) (c .under);
         below = rw (c .under) (c .level);
-        labelled = rw (c .label) (label-most l);
+        labelled = rw (c .labelIs) (within door (r .one .labels) (q .linkable .most) l);
+        faced = rw (c .faceIs) (within 0 (r .one .faces) (omega arith) l);
       }
 
   -- the first row of a tree, and its root, stand in that tree
@@ -99,6 +104,7 @@ module _ {capacity : ℕ} {t d : Table} {x v door k : ℕ} (r : Rules capacity t
     ];
     sameLevel = λ w p. marks-rest p .sameLevel;
     sameLabel = λ w p. marks-rest p .sameLabel;
+    sameFace = λ w p. marks-rest p .sameFace;
     sameRoot = λ f p e. q .roots f (p .inside) (p .other);
     rootKept = λ f p e. record {
       inside = r .one .lines .root f (p .inside) e .inUse;
@@ -112,26 +118,35 @@ module _ {capacity : ℕ} {t d : Table} {x v door k : ℕ} (r : Rules capacity t
   pub link-stored : StoredLink t d x v
   link-stored = record { moved = λ w l e. came l e .under; rest = λ w l n. parent-rest record { inside = l; other = n } }
 
-  -- where row w comes, and its label
+  -- where row w comes, its label and its face
   plain-is : {w : ℕ} → w < t .layer .count → plain d w ≡ target t x v w
   plain-is {w} l = elim (ℕ-discrete (first (t .layer) w) (first (t .layer) x)) [
     | yes e ↦ plain-joined r small link-numbered grows w (omega (arith, count-is)) (λ p. p .other e) ∙ came l e .under
     | no n ↦ plain-old r small link-numbered grows w record { inside = l; other = n } ∙ (rw (says-false (says-eqb w x) (λ z. n (ap (first (t .layer)) z))) refl)
   ]
 
-  label-is : {w : ℕ} → w < t .layer .count → d .label w ≡ labelled t x door w
-  label-is {w} l = elim (ℕ-discrete (first (t .layer) w) (first (t .layer) x)) [
-    | yes e ↦ came l e .label
-    | no n ↦ marks-rest record { inside = l; other = n } .sameLabel ∙ (rw (says-false (says-eqb w x) (λ z. n (ap (first (t .layer)) z))) refl)
+  column-is : (was′ now′ : ℕ → ℕ) (o : ℕ) → ((w : ℕ) → w < t .layer .count → first (t .layer) w ≡ first (t .layer) x → now′ w ≡ columnWith was′ x o w)
+      → ((w : ℕ) → Stays w → now′ w ≡ was′ w) → (w : ℕ) → w < t .layer .count → now′ w ≡ columnWith was′ x o w
+  column-is was′ now′ o comes rest w l = elim (ℕ-discrete (first (t .layer) w) (first (t .layer) x)) [
+    | yes e ↦ comes w l e
+    | no n ↦ rest w record { inside = l; other = n } ∙ (rw (says-false (says-eqb w x) (λ z. n (ap (first (t .layer)) z))) refl)
   ]
+
+  label-is : (w : ℕ) → w < t .layer .count → d .label w ≡ columnWith (t .label) x door w
+  label-is = column-is (t .label) (d .label) door (λ w l e. came l e .labelIs) (λ w p. marks-rest p .sameLabel)
+
+  face-is : (w : ℕ) → w < t .layer .count → d .face w ≡ columnWith (t .face) x 0 w
+  face-is = column-is (t .face) (d .face) 0 (λ w l e. came l e .faceIs) (λ w p. marks-rest p .sameFace)
 
   pub link-plain : PlainLink t d x v door
   link-plain = record {
     count = count-is;
     under = rw (says-true (says-eqb x x) refl) at (plain-is (q .linkable .inUse));
     parents = λ w l n. rw (says-false (says-eqb w x) n) at (plain-is l);
-    labelled = rw (says-true (says-eqb x x) refl) at (label-is (q .linkable .inUse));
-    labels = λ w l n. rw (says-false (says-eqb w x) n) at (label-is l);
+    labelled = rw (says-true (says-eqb x x) refl) at (label-is x (q .linkable .inUse));
+    labels = λ w l n. rw (says-false (says-eqb w x) n) at (label-is w l);
+    faced = rw (says-true (says-eqb x x) refl) at (face-is x (q .linkable .inUse));
+    faces = λ w l n. rw (says-false (says-eqb w x) n) at (face-is w l);
   }
 
   -- levels shift by as much as brings x one below v: a row k steps below x comes k + 1 below v

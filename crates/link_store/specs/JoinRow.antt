@@ -5,12 +5,12 @@ use lib.Dec.{eqb}
 use lib.IntN.{pos, _+ℤ_}
 use Rattle.laws.specs.Test.{pick}
 use Rattle.tree_laws.specs.Ancestor.{none}
-use Rattle.table.specs.Layout.{labelPlace, rootPlace}
+use Rattle.table.specs.Layout.{labelPlace, facePlace, rootPlace}
 use Rattle.table.specs.Parts.{Parts, levelAt}
 use Rattle.layer.specs.Row.{fieldAt}
 use Rattle.growth_plan.specs.declared.row.Planned.{Planned}
 use Rattle.growth_plan.specs.declared.row.Planned.the-variants.{Grow, Start, Refuse}
-use Rattle.growth_plan.specs.PlannedRow.{plannedRow}
+use Rattle.growth_plan.specs.PlannedRow.{marksOf, plannedRow}
 use Rattle.growth_store.specs.Store.{Stored, stored, planStored}
 use Rattle.growth_plan.specs.Level.{levelFrom, onLevel}
 
@@ -20,20 +20,20 @@ plannedStored p n (Grow g) = planStored p n g
 plannedStored p n (Start k) = stored p 0
 plannedStored p n (Refuse r) = stored p 0
 
--- row z under v, of this label, one level below v
-unfoldable pub joinedUnder : Parts → ℕ → ℕ → ℕ → ℕ → Stored
-joinedUnder p n z v label =
+-- row z under v, of this label and face, one level below v
+unfoldable pub joinedUnder : Parts → ℕ → ℕ → ℕ → ℕ → ℕ → Stored
+joinedUnder p n z v label face =
     onLevel (levelFrom (levelAt (p .levels) v) (levelAt (p .levels) v +ℤ pos 1))
-    (λ level. plannedStored p n (plannedRow (p .fields) (p .numbers) (p .ancestors) n z v level z label none))
+    (λ level. plannedStored p n (plannedRow (p .fields) (p .numbers) (p .ancestors) n z v (marksOf level z label face none)))
     (stored p 0)
 
--- the label of row z: `door`, the label that a linked root takes, where z is that root x, else its own
-abbrev pub labelFor : List ℕ → ℕ → ℕ → ℕ → ℕ
-labelFor f x door z = pick (eqb z x) door (fieldAt f z labelPlace)
+-- the number of row z at a place: v where z is the root x that is linked, else its own
+abbrev pub numberFor : List ℕ → ℕ → ℕ → ℕ → ℕ → ℕ
+numberFor f place x v z = pick (eqb z x) v (fieldAt f z place)
 
--- row z of a tree whose root x is linked
+-- row z of a tree whose root x is linked: x takes the label `door`, and a door is front
 unfoldable pub joinRow : Parts → ℕ → ℕ → ℕ → ℕ → Stored
-joinRow p n x door z = joinedUnder p n z (fieldAt (p .fields) z rootPlace) (labelFor (p .fields) x door z)
+joinRow p n x door z = joinedUnder p n z (fieldAt (p .fields) z rootPlace) (numberFor (p .fields) labelPlace x door z) (numberFor (p .fields) facePlace x 0 z)
 
 -- the rows of a list, one after another, and the rows renumbered, added up
 unfoldable pub joinAll : Parts → ℕ → ℕ → ℕ → List ℕ → Stored

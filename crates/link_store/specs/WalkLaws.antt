@@ -6,20 +6,20 @@ use native.Mathlib.Omega.{arith}
 use borrow.Author.Tests.{eq-eqb, ne-eqb, le-leb, lt-leb, lt-ltb, le-ltb}
 use lib.IntN.{ℤ, pos, _+ℤ_}
 use Rattle.tree_laws.specs.Ancestor.{none}
-use Rattle.table.specs.Layout.{rootPlace}
+use Rattle.table.specs.Layout.{labelPlace, facePlace, rootPlace}
 use Rattle.table.specs.declared.refusal.Refusal.{Refusal}
 use Rattle.table.specs.Parts.{Parts, levelAt}
 use Rattle.layer.specs.Row.{fieldAt}
 use Rattle.growth_plan.specs.declared.row.Plan.{Plan}
 use Rattle.growth_plan.specs.declared.row.Planned.{Planned}
 use Rattle.growth_plan.specs.declared.row.Planned.the-variants.{Grow, Start, Refuse}
-use Rattle.growth_plan.specs.PlannedRow.{plannedRow}
+use Rattle.growth_plan.specs.PlannedRow.{marksOf, plannedRow}
 use Rattle.growth_store.specs.Store.{Stored, stored, planStored}
 use Rattle.growth_plan.specs.declared.level.Level.{Level}
 use Rattle.growth_plan.specs.declared.level.Level.the-variants.{At, Out}
 use Rattle.growth_plan.specs.Level.{levelFrom}
 use Rattle.link_store.specs.declared.joins.Joining.{Joining}
-use Rattle.link_store.specs.JoinRow.{labelFor, plannedStored, joinedUnder, joinRow}
+use Rattle.link_store.specs.JoinRow.{numberFor, plannedStored, joinedUnder, joinRow}
 use Rattle.link_store.specs.Walk.{within32, walking, joining, joinedOn, nextDepth, joinTurn, joinWalk}
 
 -- one join
@@ -42,10 +42,11 @@ module _ (p : Parts) (n x door z : ℕ) {v : ℕ} {level : Level} (under : v ≡
   unfolding joinRow joinedUnder
   join-out e = rw (← under, ← told, e)
 
-  pub join-at : {k : ℤ} {label : ℕ} {planned : Planned} {o : Stored} → level ≡ At k → label ≡ labelFor (p .fields) x door z
-      → planned ≡ plannedRow (p .fields) (p .numbers) (p .ancestors) n z v k z label none → o ≡ plannedStored p n planned → o ≡ joinRow p n x door z
+  pub join-at : {k : ℤ} {label face : ℕ} {planned : Planned} {o : Stored} → level ≡ At k → label ≡ numberFor (p .fields) labelPlace x door z
+      → face ≡ numberFor (p .fields) facePlace x 0 z
+      → planned ≡ plannedRow (p .fields) (p .numbers) (p .ancestors) n z v (marksOf k z label face none) → o ≡ plannedStored p n planned → o ≡ joinRow p n x door z
   unfolding joinRow joinedUnder
-  join-at e f g h = rw (← under, ← told, e, ← f, ← g) h
+  join-at e f i g h = rw (← under, ← told, e, ← f, ← i, ← g) h
 
 -- sums
 

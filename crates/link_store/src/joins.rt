@@ -2,11 +2,13 @@
 use cells::cell;
 use growth_plan::level::Level;
 use growth_plan::level::leaf_level;
+use growth_plan::row::Marks;
 use growth_plan::row::Planned;
 use growth_plan::row::plan_row;
 use growth_store::store::store;
 use layer::layout::NONE;
 use layer::row::field;
+use table::layout::FACE;
 use table::layout::LABEL;
 use table::layout::ROOT;
 use table::level::level;
@@ -17,7 +19,7 @@ ghost use Rattle.table.specs.Parts.{levelAt, partsOf};
 ghost use Rattle.layer.specs.Checked.{Holds};
 ghost use Rattle.growth_store.specs.Store.{stored};
 ghost use Rattle.growth_plan.specs.Level.{levelFrom};
-ghost use Rattle.link_store.specs.JoinRow.{labelFor, plannedStored, joinRow};
+ghost use Rattle.link_store.specs.JoinRow.{numberFor, plannedStored, joinRow};
 ghost use Rattle.link_store.specs.Sort.{cellAt};
 ghost use Rattle.link_store.specs.Walk.{within32, walking, joining, nextDepth, joinTurn, joinWalk};
 
@@ -28,14 +30,14 @@ pub struct Joining {
     pub rows: u32,
 }
 
-// The label of row z: the door's for the linked root x, else its own.
-fn label_for(fields: &[u16], x: u16, door: u16, z: u16) -> u16
-    ensures { λ r. ⌜ r ≡ labelFor (now (fields .entry)) x door z ⌝ }
+// The number of row z at a place: v for the linked root x, else its own.
+fn number_for(fields: &[u16], place: u16, x: u16, v: u16, z: u16) -> u16
+    ensures { λ r. ⌜ r ≡ numberFor (now (fields .entry)) place x v z ⌝ }
 {
     if z == x {
-        return door;
+        return v;
     }
-    field(fields, z, LABEL)
+    field(fields, z, place)
 }
 
 // One level below row v, where that is a level.
@@ -63,7 +65,7 @@ fn store_planned(
     }
 }
 
-// Row z joins, and how many rows that renumbers.
+// Row z joins, and how many rows that renumbers. The linked root x takes the door as its label, and the front.
 fn join_row(
     fields: &mut [u16],
     numbers: &mut [u64],
@@ -78,11 +80,19 @@ fn join_row(
     ensures { λ r. ⌜ stored (partsOf (now (fields .exit)) (now (numbers .exit)) (now (levels .exit)) (now (ancestors .exit))) r ≡ joinRow (partsOf (now (fields .entry)) (now (numbers .entry)) (now (levels .entry)) (now (ancestors .entry))) n x door z ⌝ }
 {
     let v = field(fields, z, ROOT);
-    let label = label_for(fields, x, door, z);
+    let label = number_for(fields, LABEL, x, door, z);
+    let face = number_for(fields, FACE, x, 0, z);
     let Level::At(l) = level_under(levels, v) else {
         return 0;
     };
-    let planned = plan_row(fields, numbers, ancestors, n, z, v, l, z, label, NONE);
+    let marks = Marks {
+        level: l,
+        labelled: z,
+        label: label,
+        face: face,
+        tree: NONE,
+    };
+    let planned = plan_row(fields, numbers, ancestors, n, z, v, marks);
     store_planned(fields, numbers, levels, ancestors, n, planned)
 }
 

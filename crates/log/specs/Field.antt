@@ -10,30 +10,43 @@ use Rattle.log.specs.Outcome.{Outcome, end, refusal, field}
 
 -- ---- by tag
 
--- the tags: 1 leaf, 2 root, 3 question, 4 alike, 9 filler
+-- the tags: 1 leaf, 2 root, 3 question, 4 alike, 5 leaf with a face, 9 filler
 abbrev pub listed : ℕ → Bool
-listed tag = eqb tag 1 || eqb tag 2 || eqb tag 3 || eqb tag 4 || eqb tag 9
+listed tag = eqb tag 1 || eqb tag 2 || eqb tag 3 || eqb tag 4 || eqb tag 5 || eqb tag 9
+
+-- the kind of a field: its tag, but a leaf is a leaf with or without a face
+abbrev pub kindOf : ℕ → ℕ
+kindOf tag = pick (eqb tag 5) 1 tag
 
 -- the lengths that a listed tag allows: an opening or nothing for a root (02: "The log's top field then has length 2; length 0 still
--- serves for the first image of a tree, and for older logs"), any for filler, else two numbers
+-- serves for the first image of a tree, and for older logs"), five for a leaf with a face (02: "length 5: parent, panel, face"), any for
+-- filler, else two numbers
 abbrev pub fits : ℕ → ℕ → Bool
-fits tag n = pick (eqb tag 2) (eqb n 0 || eqb n 2) (pick (eqb tag 9) true (eqb n 4))
+fits tag n = pick (eqb tag 2) (eqb n 0 || eqb n 2) (pick (eqb tag 5) (eqb n 5) (pick (eqb tag 9) true (eqb n 4)))
+
+-- what a leaf tells: its parent, label and face
+abbrev pub leafValues : List ℕ → ℕ → List ℕ
+leafValues body face = numberAt body 0 ∷ numberAt body 2 ∷ face ∷ []
 
 -- what a root tells: whether it names an opening, 1 or 0, and the opening, 0 where it names none
 abbrev pub rootValues : List ℕ → List ℕ
 rootValues body = pick (eqb (length body) 0) (0 ∷ 0 ∷ []) (1 ∷ numberAt body 0 ∷ [])
 
--- what a body tells: nothing for filler, else two numbers
+-- what a body tells: a leaf's face is 0 by tag 1 (02: "tag 1 means front") and the last byte by tag 5; nothing for filler, else two numbers
 abbrev pub values : ℕ → List ℕ → List ℕ
-values tag body = pick (eqb tag 2) (rootValues body) (pick (eqb tag 9) [] (numberAt body 0 ∷ numberAt body 2 ∷ []))
+values tag body =
+    pick (eqb tag 1) (leafValues body 0)
+    (pick (eqb tag 2) (rootValues body)
+    (pick (eqb tag 5) (leafValues body (getD body 4 0))
+    (pick (eqb tag 9) [] (numberAt body 0 ∷ numberAt body 2 ∷ []))))
 
--- a whole field, of this tag and body, with the next field at `next`: refusals 6, 7 and 9 in this order, or its values
+-- a whole field, of this tag and body, with the next field at `next`: refusals 6, 7 and 9 in this order, or its kind and values
 unfoldable pub wholeField : ℕ → List ℕ → ℕ → Outcome
 wholeField tag body next =
     pick (not (listed tag)) (refusal 6 next)
     (pick (not (fits tag (length body))) (refusal 7 next)
     (pick (eqb tag 9 && not (allZero body)) (refusal 9 next)
-    (field tag (values tag body) next)))
+    (field (kindOf tag) (values tag body) next)))
 
 -- ---- at a place
 

@@ -5,7 +5,7 @@ use Rattle.laws.specs.Test.{bit}
 use Rattle.log.specs.declared.Field.{Field}
 use Rattle.log.specs.declared.Field.the-variants.{End, BadTag, BadLength, Truncated, DirtyFiller, Leaf, Root, Question, Alike, Filler}
 
--- the log's end; a refusal's number and the next place; or a field's tag, its values and the next place
+-- the log's end; a refusal's number and the next place; or a field's kind, its values and the next place
 pub data Outcome : Type 0 where
   end : Outcome
   refusal : ℕ → ℕ → Outcome
@@ -18,7 +18,7 @@ outcomeOf (BadTag next) = refusal 6 next
 outcomeOf (BadLength next) = refusal 7 next
 outcomeOf (Truncated next) = refusal 8 next
 outcomeOf (DirtyFiller next) = refusal 9 next
-outcomeOf (Leaf parent label next) = field 1 (parent ∷ label ∷ []) next
+outcomeOf (Leaf parent label face next) = field 1 (parent ∷ label ∷ face ∷ []) next
 outcomeOf (Root named opening next) = field 2 (bit named ∷ opening ∷ []) next
 outcomeOf (Question x y next) = field 3 (x ∷ y ∷ []) next
 outcomeOf (Alike x y next) = field 4 (x ∷ y ∷ []) next

@@ -17,11 +17,11 @@ named-told false = refl
 caseOf : Outcome → Field
 caseOf end = End
 caseOf (refusal n next) = pick (eqb n 6) (BadTag next) (pick (eqb n 7) (BadLength next) (pick (eqb n 8) (Truncated next) (DirtyFiller next)))
-caseOf (field tag v next) =
-    pick (eqb tag 1) (Leaf (getD v 0 0) (getD v 1 0) next)
-    (pick (eqb tag 2) (Root (eqb (getD v 0 0) 1) (getD v 1 0) next)
-    (pick (eqb tag 3) (Question (getD v 0 0) (getD v 1 0) next)
-    (pick (eqb tag 4) (Alike (getD v 0 0) (getD v 1 0) next)
+caseOf (field kind v next) =
+    pick (eqb kind 1) (Leaf (getD v 0 0) (getD v 1 0) (getD v 2 0) next)
+    (pick (eqb kind 2) (Root (eqb (getD v 0 0) 1) (getD v 1 0) next)
+    (pick (eqb kind 3) (Question (getD v 0 0) (getD v 1 0) next)
+    (pick (eqb kind 4) (Alike (getD v 0 0) (getD v 1 0) next)
     (Filler next))))
 
 case-outcome : (f : Field) → caseOf (outcomeOf f) ≡ f
@@ -31,7 +31,7 @@ case-outcome (BadTag next) = refl
 case-outcome (BadLength next) = refl
 case-outcome (Truncated next) = refl
 case-outcome (DirtyFiller next) = refl
-case-outcome (Leaf parent label next) = refl
+case-outcome (Leaf parent label face next) = refl
 case-outcome (Root named opening next) = rw (named-told named)
 case-outcome (Question x y next) = refl
 case-outcome (Alike x y next) = refl

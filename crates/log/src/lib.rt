@@ -16,10 +16,11 @@ pub enum Field {
     BadLength(usize),
     Truncated(usize),
     DirtyFiller(usize),
-    // The five kinds of field; the root is the paper's top, the label its panel.
+    // The five kinds of field; the root is the paper's top, the label its panel. A leaf of tag 1 has face 0, the front.
     Leaf {
         parent: u16,
         label: u16,
+        face: u16,
         next: usize,
     },
     // Whether it names an opening, and the opening, 0 where it names none.
@@ -50,7 +51,39 @@ const QUESTION: u8 = 3;
 
 const ALIKE: u8 = 4;
 
+const FACED_LEAF: u8 = 5;
+
 const FILLER: u8 = 9;
+
+// A leaf that names no face: it is a front.
+fn leaf_field(body: &[u8], next: usize) -> Field
+    ensures { λ r. ⌜ outcomeOf r ≡ wholeField 1 (now (body .entry)) next ⌝ }
+{
+    if body.len() != 4 {
+        return Field::BadLength(next);
+    }
+    Field::Leaf {
+        parent: number_at(body, 0),
+        label: number_at(body, 2),
+        face: 0,
+        next,
+    }
+}
+
+// A leaf that names its face, in the last byte; any byte is told, and the call for the leaf refuses an odd face.
+fn faced_leaf_field(body: &[u8], next: usize) -> Field
+    ensures { λ r. ⌜ outcomeOf r ≡ wholeField 5 (now (body .entry)) next ⌝ }
+{
+    if body.len() != 5 {
+        return Field::BadLength(next);
+    }
+    Field::Leaf {
+        parent: number_at(body, 0),
+        label: number_at(body, 2),
+        face: body[4] as u16,
+        next,
+    }
+}
 
 // A root: no body names no opening, and a body of one number is the opening that it names.
 fn root_field(body: &[u8], next: usize) -> Field
@@ -78,16 +111,7 @@ fn whole_field(tag: u8, body: &[u8], next: usize) -> Field
     ensures { λ r. ⌜ outcomeOf r ≡ wholeField tag (now (body .entry)) next ⌝ }
 {
     match tag {
-        LEAF => {
-            if body.len() != 4 {
-                return Field::BadLength(next);
-            }
-            Field::Leaf {
-                parent: number_at(body, 0),
-                label: number_at(body, 2),
-                next,
-            }
-        }
+        LEAF => leaf_field(body, next),
         ROOT => root_field(body, next),
         QUESTION => {
             if body.len() != 4 {
@@ -109,6 +133,7 @@ fn whole_field(tag: u8, body: &[u8], next: usize) -> Field
                 next,
             }
         }
+        FACED_LEAF => faced_leaf_field(body, next),
         FILLER => {
             if !all_zero(body) {
                 return Field::DirtyFiller(next);

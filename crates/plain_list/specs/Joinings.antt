@@ -20,7 +20,7 @@ pub data Unlinked : List PlainReply → Type 0 where
 -- a call that asks for a link
 abbrev pub isLink : PlainCall → Bool
 isLink (first s) = false
-isLink (leaf v l s) = false
+isLink (leaf v l f s) = false
 isLink (root named opening s) = false
 isLink (rootOver x named opening s) = false
 isLink (link x v door s) = true
@@ -39,7 +39,7 @@ module _ (capacity : ℕ) where
   step-unlinked : (p : PlainList) {q : PlainCall} {o : PlainOutcome} → Does capacity p q o → isLink q ≡ false → o .reply ≢ linked
   step-unlinked p (nothing d) i = d
   step-unlinked p (adds-first d) i = node-unlinked (countOf p)
-  step-unlinked p (adds-leaf h j k d) i = node-unlinked (countOf p)
+  step-unlinked p (adds-leaf h j k m d) i = node-unlinked (countOf p)
   step-unlinked p (adds-root z d) i = node-unlinked (countOf p)
   step-unlinked p (adds-over h r d) i = node-unlinked (countOf p)
   step-unlinked p (joins h i j k r d) f = absurd (let z : _≡_ {A = ℕ} 0 1 = cc in omega arith)
@@ -53,8 +53,8 @@ module _ (capacity : ℕ) where
 
   step-count : (p : PlainList) {q : PlainCall} {o : PlainOutcome} → Does capacity p q o → o .reply ≢ linked → countOf (o .after) ≡ countOf p + o .joined
   step-count p (nothing d) e = omega arith
-  step-count p (adds-first d) e = omega (arith, node-count p none 0)
-  step-count p (adds-leaf {v = v} {l} h i j d) e = omega (arith, node-count p v l)
+  step-count p (adds-first d) e = omega (arith, node-count p none 0 0)
+  step-count p (adds-leaf {v = v} {l} {f} h i j k d) e = omega (arith, node-count p v l f)
   step-count p (adds-root {named = named} {opening} z d) e = omega (arith, root-count p (rootIn p 0) named opening)
   step-count p (adds-over {r = r} {named} {opening} h i d) e = omega (arith, root-count p r named opening)
   step-count p (joins h i j k r d) e = absurd (e refl)

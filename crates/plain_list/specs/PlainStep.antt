@@ -7,14 +7,14 @@ use Rattle.laws.specs.Test.{pick, bit}
 use Rattle.laws.specs.Sum.{countTo}
 use Rattle.tree_laws.specs.Ancestor.{none}
 use Rattle.tree_laws.specs.Answer.{Answer}
-use Rattle.plain_list.specs.PlainList.{PlainList, countOf, parentOf, labelOf, withFirst, withLeaf, withRoot, withLink}
+use Rattle.plain_list.specs.PlainList.{PlainList, countOf, parentOf, labelOf, faceOf, withFirst, withLeaf, withRoot, withLink}
 use Rattle.plain_list.specs.Naive.{naiveAnswer, naiveSame, naiveRoot}
 
 -- a call by its arguments, without the lent tables and the count; of the scratch only its length. `root` is 01's new root, which names no node;
 -- `named` says whether a new root names an opening
 pub data PlainCall : Type 0 where
   first : (scratch : ℕ) → PlainCall
-  leaf : (parent label scratch : ℕ) → PlainCall
+  leaf : (parent label face scratch : ℕ) → PlainCall
   root : (named : Bool) (opening scratch : ℕ) → PlainCall
   rootOver : (x : ℕ) (named : Bool) (opening scratch : ℕ) → PlainCall
   link : (x v door scratch : ℕ) → PlainCall
@@ -69,6 +69,13 @@ abbrev pub isOpening : Bool → ℕ → Bool
 isOpening true o = isLabel o
 isOpening false o = true
 
+-- a face is 0, front, or 1, back
+abbrev pub largestFace : ℕ
+largestFace = 1
+
+abbrev pub isFace : ℕ → Bool
+isFace f = leb f largestFace
+
 -- there is room for one node more
 abbrev pub hasRoom : ℕ → PlainList → Bool
 hasRoom capacity p = not (eqb (countOf p) capacity)
@@ -98,18 +105,23 @@ asked p x y r =
     (unless (eqb (rootIn p x) (rootIn p y)) 12 p
     (replies r p))
 
+-- x and y are alike: equal lists of labels and equal lists of faces (02: "Alike now needs equal panels and equal faces")
+abbrev pub naiveAlike : PlainList → ℕ → ℕ → Bool
+naiveAlike p x y = naiveSame (parentOf p) (labelOf p) (countOf p) x y && naiveSame (parentOf p) (faceOf p) (countOf p) x y
+
 -- a call on the list p, at this capacity: the first refusal that applies, or else the service
 unfoldable pub plainOutcome : ℕ → PlainList → PlainCall → PlainOutcome
 plainOutcome capacity p (first scratch) =
     unless (eqb scratch capacity) 3 p
     (unless (hasRoom capacity p) 2 p
     (grows p (withFirst p)))
-plainOutcome capacity p (leaf parent label scratch) =
+plainOutcome capacity p (leaf parent label face scratch) =
     unless (eqb scratch capacity) 3 p
     (unless (ltb parent (countOf p)) 1 p
     (unless (isLabel label) 5 p
+    (unless (isFace face) 13 p
     (unless (hasRoom capacity p) 2 p
-    (grows p (withLeaf p parent label)))))
+    (grows p (withLeaf p parent label face))))))
 -- a first node where there is none (02: "On an empty tree a named opening is checked and otherwise unused"), else a new root over that of the tree of node 0
 plainOutcome capacity p (root named opening scratch) =
     unless (eqb scratch capacity) 3 p
@@ -129,7 +141,7 @@ plainOutcome capacity p (link x v door scratch) =
     (unless (isLabel door) 5 p
     (links p x v door)))
 plainOutcome capacity p (question x y) = asked p x y (answered (naiveAnswer (parentOf p) (labelOf p) (countOf p) x y))
-plainOutcome capacity p (alike x y) = asked p x y (same (bit (naiveSame (parentOf p) (labelOf p) (countOf p) x y)))
+plainOutcome capacity p (alike x y) = asked p x y (same (bit (naiveAlike p x y)))
 plainOutcome capacity p (inspection scratch) =
     unless (eqb scratch capacity) 3 p
     (replies passes p)

@@ -1,6 +1,6 @@
 -- What a call does to the plain list: it changes nothing, adds a node where there is room, or links a tree.
 use mathlib.Core.Path.{_≡_, refl, sym}
-use mathlib.Core.Bool.{Bool, true, false}
+use mathlib.Core.Bool.{Bool, true, false, _&&_}
 use mathlib.Core.Logic.{_≢_}
 use Prim.Native.Nat.{ℕ, _≤_, _<_}
 use native.Mathlib.Omega.{arith}
@@ -12,13 +12,16 @@ use Rattle.plain_list.specs.PlainList.{PlainList, countOf, parentOf, lab
 use Rattle.plain_list.specs.Naive.{naiveAnswer, naiveSame}
 use Rattle.plain_list.specs.PlainStep.{PlainCall, first, leaf, root, rootOver, link, question, alike, inspection}
 use Rattle.plain_list.specs.PlainStep.{PlainReply, refusal, node, linked, answered, same, passes, PlainOutcome, replies, refusalOf, unless, grows}
-use Rattle.plain_list.specs.PlainStep.{bothKnown, largestLabel, isLabel, isOpening, hasRoom, rootIn, treeCount, asked, plainOutcome, plainStep, plainAfter}
+use Rattle.plain_list.specs.PlainStep.{bothKnown, largestLabel, isLabel, isOpening, largestFace, isFace, hasRoom, rootIn, treeCount, naiveAlike, asked, plainOutcome, plainStep, plainAfter}
 
 pub says-bothKnown : (p : PlainList) (x y : ℕ) → Says ((x < countOf p) × (y < countOf p)) (bothKnown p x y)
 says-bothKnown p x y = says-and (says-ltb x (countOf p)) (λ _. says-ltb y (countOf p))
 
 says-label : (l : ℕ) → Says ((1 ≤ l) × (l ≤ largestLabel)) (isLabel l)
 says-label l = says-and (says-leb 1 l) (λ _. says-leb l largestLabel)
+
+says-face : (f : ℕ) → Says (f ≤ largestFace) (isFace f)
+says-face f = says-leb f largestFace
 
 says-itself : (b : Bool) → Says (b ≡ true) b
 says-itself true = holds refl
@@ -31,11 +34,17 @@ module _ (capacity : ℕ) (p : PlainList) where
   unfolding plainOutcome
   first-served s e d = rw (eq-eqb s capacity e, ne-eqb (countOf p) capacity d)
 
-  pub leaf-served : (v l s : ℕ) → s ≡ capacity → v < countOf p → 1 ≤ l → l ≤ largestLabel → countOf p ≢ capacity
-      → plainOutcome capacity p (leaf v l s) ≡ grows p (withLeaf p v l)
+  pub leaf-served : (v l f s : ℕ) → s ≡ capacity → v < countOf p → 1 ≤ l → l ≤ largestLabel → f ≤ largestFace → countOf p ≢ capacity
+      → plainOutcome capacity p (leaf v l f s) ≡ grows p (withLeaf p v l f)
   unfolding plainOutcome
-  leaf-served v l s e h i j d =
-      rw (eq-eqb s capacity e, lt-ltb v (countOf p) h, le-leb 1 l i, le-leb l largestLabel j, ne-eqb (countOf p) capacity d)
+  leaf-served v l f s e h i j k d = rw (
+    eq-eqb s capacity e,
+    lt-ltb v (countOf p) h,
+    le-leb 1 l i,
+    le-leb l largestLabel j,
+    le-leb f largestFace k,
+    ne-eqb (countOf p) capacity d,
+  )
 
   -- 01's new root, where there is no node and where there is one
   pub root-served-first : (named : Bool) (opening s : ℕ) → s ≡ capacity → isOpening named opening ≡ true → countOf p ≢ capacity → countOf p ≡ 0
@@ -73,7 +82,7 @@ module _ (capacity : ℕ) (p : PlainList) where
   question-served x y i j e = rw (lt-ltb x (countOf p) i, lt-ltb y (countOf p) j, eq-eqb (rootIn p x) (rootIn p y) e)
 
   pub alike-served : (x y : ℕ) → x < countOf p → y < countOf p → rootIn p x ≡ rootIn p y
-      → plainOutcome capacity p (alike x y) ≡ replies (same (bit (naiveSame (parentOf p) (labelOf p) (countOf p) x y))) p
+      → plainOutcome capacity p (alike x y) ≡ replies (same (bit (naiveAlike p x y))) p
   unfolding plainOutcome
   alike-served x y i j e = rw (lt-ltb x (countOf p) i, lt-ltb y (countOf p) j, eq-eqb (rootIn p x) (rootIn p y) e)
 
@@ -92,22 +101,35 @@ module _ (capacity : ℕ) (p : PlainList) where
   unfolding plainOutcome
   first-full s e f = rw (eq-eqb s capacity e, eq-eqb (countOf p) capacity f)
 
-  pub leaf-misfit : (v l s : ℕ) → s ≢ capacity → plainOutcome capacity p (leaf v l s) ≡ refusalOf 3 p
+  pub leaf-misfit : (v l f s : ℕ) → s ≢ capacity → plainOutcome capacity p (leaf v l f s) ≡ refusalOf 3 p
   unfolding plainOutcome
-  leaf-misfit v l s d = rw (ne-eqb s capacity d)
+  leaf-misfit v l f s d = rw (ne-eqb s capacity d)
 
-  pub leaf-unknown : (v l s : ℕ) → s ≡ capacity → countOf p ≤ v → plainOutcome capacity p (leaf v l s) ≡ refusalOf 1 p
+  pub leaf-unknown : (v l f s : ℕ) → s ≡ capacity → countOf p ≤ v → plainOutcome capacity p (leaf v l f s) ≡ refusalOf 1 p
   unfolding plainOutcome
-  leaf-unknown v l s e h = rw (eq-eqb s capacity e, le-ltb v (countOf p) h)
+  leaf-unknown v l f s e h = rw (eq-eqb s capacity e, le-ltb v (countOf p) h)
 
-  pub leaf-no-label : (v l s : ℕ) → s ≡ capacity → v < countOf p → ¬ ((1 ≤ l) × (l ≤ largestLabel)) → plainOutcome capacity p (leaf v l s) ≡ refusalOf 5 p
+  pub leaf-no-label : (v l f s : ℕ) → s ≡ capacity → v < countOf p → ¬ ((1 ≤ l) × (l ≤ largestLabel)) → plainOutcome capacity p (leaf v l f s) ≡ refusalOf 5 p
   unfolding plainOutcome
-  leaf-no-label v l s e h d = rw (eq-eqb s capacity e, lt-ltb v (countOf p) h, says-false (says-label l) d)
+  leaf-no-label v l f s e h d = rw (eq-eqb s capacity e, lt-ltb v (countOf p) h, says-false (says-label l) d)
 
-  pub leaf-full : (v l s : ℕ) → s ≡ capacity → v < countOf p → 1 ≤ l → l ≤ largestLabel → countOf p ≡ capacity
-      → plainOutcome capacity p (leaf v l s) ≡ refusalOf 2 p
+  pub leaf-no-face : (v l f s : ℕ) → s ≡ capacity → v < countOf p → 1 ≤ l → l ≤ largestLabel → ¬ (f ≤ largestFace)
+      → plainOutcome capacity p (leaf v l f s) ≡ refusalOf 13 p
   unfolding plainOutcome
-  leaf-full v l s e h i j f = rw (eq-eqb s capacity e, lt-ltb v (countOf p) h, le-leb 1 l i, le-leb l largestLabel j, eq-eqb (countOf p) capacity f)
+  leaf-no-face v l f s e h i j d =
+      rw (eq-eqb s capacity e, lt-ltb v (countOf p) h, le-leb 1 l i, le-leb l largestLabel j, says-false (says-face f) d)
+
+  pub leaf-full : (v l f s : ℕ) → s ≡ capacity → v < countOf p → 1 ≤ l → l ≤ largestLabel → f ≤ largestFace → countOf p ≡ capacity
+      → plainOutcome capacity p (leaf v l f s) ≡ refusalOf 2 p
+  unfolding plainOutcome
+  leaf-full v l f s e h i j k z = rw (
+    eq-eqb s capacity e,
+    lt-ltb v (countOf p) h,
+    le-leb 1 l i,
+    le-leb l largestLabel j,
+    le-leb f largestFace k,
+    eq-eqb (countOf p) capacity z,
+  )
 
   pub root-misfit : (named : Bool) (opening s : ℕ) → s ≢ capacity → plainOutcome capacity p (root named opening s) ≡ refusalOf 3 p
   unfolding plainOutcome
@@ -208,7 +230,8 @@ module _ (capacity : ℕ) (p : PlainList) (x v door s : ℕ) where
 pub data Does (capacity : ℕ) (p : PlainList) : PlainCall → PlainOutcome → Type 0 where
   nothing : {q : PlainCall} {r : PlainReply} → r ≢ linked → Does capacity p q (replies r p)
   adds-first : {q : PlainCall} → countOf p ≢ capacity → Does capacity p q (grows p (withFirst p))
-  adds-leaf : {q : PlainCall} {v l : ℕ} → v < countOf p → 1 ≤ l → l ≤ largestLabel → countOf p ≢ capacity → Does capacity p q (grows p (withLeaf p v l))
+  adds-leaf : {q : PlainCall} {v l f : ℕ} → v < countOf p → 1 ≤ l → l ≤ largestLabel → f ≤ largestFace → countOf p ≢ capacity
+      → Does capacity p q (grows p (withLeaf p v l f))
   adds-root : {named : Bool} {opening s : ℕ} → countOf p ≢ 0 → countOf p ≢ capacity
       → Does capacity p (root named opening s) (grows p (withRoot p (rootIn p 0) named opening))
   adds-over : {r : ℕ} {named : Bool} {opening s : ℕ} → r < countOf p → parentOf p r ≡ none → countOf p ≢ capacity
@@ -252,11 +275,12 @@ module _ (capacity : ℕ) (p : PlainList) where
   pub call-does : (q : PlainCall) → Does capacity p q (plainOutcome capacity p q)
   unfolding plainOutcome
   call-does (first s) = checked 3 (says-eqb s capacity) (λ _. checked 2 room adds-first)
-  call-does (leaf v l s) =
+  call-does (leaf v l f s) =
       checked 3 (says-eqb s capacity) (λ _.
       checked 1 (says-ltb v (countOf p)) (λ h.
       checked 5 (says-label l) (λ i.
-      checked 2 room (λ d. adds-leaf h (i .0) (i .1) d))))
+      checked 13 (says-face f) (λ j.
+      checked 2 room (λ d. adds-leaf h (i .0) (i .1) j d)))))
   call-does (root named opening s) =
       checked 3 (says-eqb s capacity) (λ _.
       checked 5 (says-itself (isOpening named opening)) (λ _.
@@ -275,7 +299,7 @@ module _ (capacity : ℕ) (p : PlainList) where
       checked 10 (says-eqb (parentOf p x) none) (λ r.
       checked 11 (says-not (says-eqb (rootIn p v) x)) (λ d. joins (h .0) (h .1) (i .0) (i .1) r d)))))
   call-does (question x y) = asks x y _ (answered-unlinked (naiveAnswer (parentOf p) (labelOf p) (countOf p) x y))
-  call-does (alike x y) = asks x y _ (same-unlinked (bit (naiveSame (parentOf p) (labelOf p) (countOf p) x y)))
+  call-does (alike x y) = asks x y _ (same-unlinked (bit (naiveAlike p x y)))
   call-does (inspection s) = checked 3 (says-eqb s capacity) (λ _. nothing passes-unlinked)
 
   -- a refusal changes nothing
@@ -288,7 +312,17 @@ module _ (capacity : ℕ) (p : PlainList) where
       go : {q : PlainCall} {o : PlainOutcome} → Does capacity p q o → o .reply ≡ refusal n → o .after ≡ p
       go (nothing d) e = refl
       go (adds-first d) e = absurd (not-node e)
-      go (adds-leaf h i j d) e = absurd (not-node e)
+      go (adds-leaf h i j k d) e = absurd (not-node e)
       go (adds-root z d) e = absurd (not-node e)
       go (adds-over h r d) e = absurd (not-node e)
       go (joins h i j k r d) e = absurd (refused-unlinked n (sym e))
+
+-- Alike
+
+first-of : (b c : Bool) → b && c ≡ true → b ≡ true
+first-of true c e = refl
+first-of false c e = e
+
+-- alike by labels and faces is alike by labels (02: "so every pair alike after this change was alike before it")
+pub alike-by-labels : (p : PlainList) (x y : ℕ) → naiveAlike p x y ≡ true → naiveSame (parentOf p) (labelOf p) (countOf p) x y ≡ true
+alike-by-labels p x y = first-of _ _

@@ -1,34 +1,38 @@
--- Parents and labels that are the plain list's: what they answer, the plain list answers.
-use mathlib.Core.Path.{_≡_, sym, ap, _∙_}
+-- Parents, labels and faces that are the plain list's: what they answer, the plain list answers.
+use mathlib.Core.Path.{_≡_, refl, sym, _∙_}
 use mathlib.Core.Bool.{Bool, _&&_}
 use mathlib.Core.Logic.{_≢_}
-use Prim.Native.Nat.{ℕ, _<_}
-use native.Mathlib.Decide.{ℕ-discrete}
+use Prim.Native.Nat.{ℕ, suc, _<_}
 use native.Mathlib.Omega.{arith}
 use lib.Dec.{eqb}
-use Rattle.laws.specs.Test.{Says, says-eq, pick}
+use lib.ListN.{length-set}
+use Rattle.laws.specs.Test.{Says, says-eq, says-map, says-and, pick}
 use Rattle.tree_laws.specs.Ancestor.{none, Forest}
 use Rattle.tree_laws.specs.AncestorLaws.{trans, anc-in}
 use Rattle.tree_laws.specs.Nca.{Kindred}
 use Rattle.tree_laws.specs.Top.{first-one}
-use Rattle.tree_laws.specs.Answer.{Answer, Answers, SameLabels}
-use Rattle.plain_list.specs.PlainList.{PlainList, emptyList, countOf, parentOf, labelOf, withNode, withRoot, withLink}
-use Rattle.plain_list.specs.PlainListLaws.{node-count, node-parent-old, node-parent-new, node-label-old, node-label-new}
-use Rattle.plain_list.specs.PlainListLaws.{root-count, root-parent-new, root-parent-old, root-parent-other, root-label-old, root-label-new}
-use Rattle.plain_list.specs.PlainListLaws.{link-count, link-parent-root, link-parent-other, link-label-root, link-label-other}
+use Rattle.tree_laws.specs.Answer.{Answer, Answers, SameList, Alike}
+use Rattle.plain_list.specs.PlainList.{PlainList, emptyList, countOf, parentOf, labelOf, faceOf, withNode, under, withRoot, withLink}
+use Rattle.plain_list.specs.Column.{length-named, gives-more, gives-set, gives-named}
+use Rattle.plain_list.specs.PlainListLaws.{node-count, root-count, link-count}
 use Rattle.plain_list.specs.Naive.{naiveAnswer, naiveSame}
 use Rattle.plain_list.specs.NaiveLaws.{naive-answers, says-same}
 use Rattle.plain_list.specs.AnswerLaws.{forest-agree, anc-agree, anc-agree-back, answers-unique, answers-agree, same-agree}
-use Rattle.plain_list.specs.PlainStep.{rootIn}
+use Rattle.plain_list.specs.PlainStep.{rootIn, naiveAlike}
 use Rattle.plain_list.specs.Proper.{Proper, proper-forest, walk-enough, root-first}
 
--- on the nodes of the list, up gives its parents and label its labels
-pub record Shows (up label : ℕ → ℕ) (p : PlainList) : Type 0 where
+-- on the nodes of the list, up gives its parents, label its labels and face its faces
+pub record Shows (up label face : ℕ → ℕ) (p : PlainList) : Type 0 where
   pub parents : (x : ℕ) → x < countOf p → up x ≡ parentOf p x
   pub labels : (x : ℕ) → x < countOf p → label x ≡ labelOf p x
+  pub faces : (x : ℕ) → x < countOf p → face x ≡ faceOf p x
 
-pub shows-empty : (up label : ℕ → ℕ) → Shows up label emptyList
-shows-empty up label = record { parents = λ x l. absurd (omega arith); labels = λ x l. absurd (omega arith) }
+pub shows-empty : (up label face : ℕ → ℕ) → Shows up label face emptyList
+shows-empty up label face = record {
+  parents = λ x l. absurd (omega arith);
+  labels = λ x l. absurd (omega arith);
+  faces = λ x l. absurd (omega arith);
+}
 
 -- Trees: two nodes stand in one exactly when their roots are one
 
@@ -42,7 +46,7 @@ module _ {capacity : ℕ} {p : PlainList} (t : Proper capacity p) {x y : ℕ} (l
       first-one (root-first t x l) record { over = trans (q .over) (k .left); top = q .top }
       ∙ first-one record { over = trans (q .over) (k .right); top = q .top } (root-first t y m)
 
-module _ {capacity : ℕ} {p : PlainList} {up label : ℕ → ℕ} (t : Proper capacity p) (s : Shows up label p) where
+module _ {capacity : ℕ} {p : PlainList} {up label face : ℕ → ℕ} (t : Proper capacity p) (s : Shows up label face p) where
   shown-forest : Forest up (t .depth) (countOf p)
   shown-forest = forest-agree (proper-forest t) (s .parents)
 
@@ -70,73 +74,73 @@ module _ {capacity : ℕ} {p : PlainList} {up label : ℕ → ℕ} (t : Proper c
       (naive-answers (proper-forest t) (labelOf p) (countOf p) l m (walk-enough t x l) (walk-enough t y m) (one-root t l m e))
       (answers-agree shown-forest (λ z i. sym (s .parents z i)) (λ z i. sym (s .labels z i)) l m a)
 
-  -- a test whether the lists of labels over up and label are equal is the naive one
-  pub naive-same-is : {x y : ℕ} {b : Bool} → x < countOf p → y < countOf p → Says (SameLabels up label x y) b
-      → naiveSame (parentOf p) (labelOf p) (countOf p) x y ≡ b
-  naive-same-is {x} {y} l m a = says-eq
-      (same-agree (proper-forest t) (s .parents) (s .labels) l m)
-      (same-agree shown-forest (λ z i. sym (s .parents z i)) (λ z i. sym (s .labels z i)) l m)
-      (says-same (proper-forest t) (labelOf p) (countOf p) l m (walk-enough t x l) (walk-enough t y m))
+  -- Alike
+
+  -- by a column that is the list's: whether its lists over up are equal
+  says-listed : {column own : ℕ → ℕ} → ((x : ℕ) → x < countOf p → column x ≡ own x) → {x y : ℕ} → x < countOf p → y < countOf p
+      → Says (SameList up column x y) (naiveSame (parentOf p) own (countOf p) x y)
+  says-listed {own = own} e {x} {y} l m = says-map
+      (same-agree (proper-forest t) (s .parents) e l m)
+      (same-agree shown-forest (λ z i. sym (s .parents z i)) (λ z i. sym (e z i)) l m)
+      (says-same (proper-forest t) own (countOf p) l m (walk-enough t x l) (walk-enough t y m))
+
+  -- a test whether x and y are alike over up, label and face is the naive one
+  pub naive-alike-is : {x y : ℕ} {b : Bool} → x < countOf p → y < countOf p → Says (Alike up label face x y) b → naiveAlike p x y ≡ b
+  naive-alike-is l m a = says-eq
+      (λ z. record { labels = z .0; faces = z .1 })
+      (λ z. (z .labels, z .faces))
+      (says-and (says-listed (s .labels) l m) (λ _. says-listed (s .faces) l m))
       a
 
 -- Growth
 
-module _ {capacity : ℕ} {p : PlainList} {up up′ label label′ : ℕ → ℕ} (t : Proper capacity p) (s : Shows up label p)
-    (labels-stay : (x : ℕ) → x < countOf p → label′ x ≡ label x) where
-  -- a node more, of parent v: the old nodes keep their parents
-  pub shows-node : {v l : ℕ} → ((x : ℕ) → x < countOf p → up′ x ≡ up x) → up′ (countOf p) ≡ v → label′ (countOf p) ≡ l → Shows up′ label′ (withNode p v l)
-  shows-node {v} {l} stay new labelled = record {
-    parents = λ x i. elim (ℕ-discrete x (countOf p)) [
-      | yes e ↦ rw e (new ∙ sym (node-parent-new p v l))
-      | no d ↦ let j = old x i d in stay x j ∙ s .parents x j ∙ sym (node-parent-old p v l x j)
-    ];
-    labels = λ x i. elim (ℕ-discrete x (countOf p)) [
-      | yes e ↦ rw e (labelled ∙ sym (node-label-new p v l (t .labelled)))
-      | no d ↦ let j = old x i d in labels-stay x j ∙ s .labels x j ∙ sym (node-label-old p v l (t .labelled) x j)
-    ];
-  }
-    where
-      old : (x : ℕ) → x < countOf (withNode p v l) → x ≢ countOf p → x < countOf p
-      old x i d = omega (arith, node-count p v l)
-
--- a new root: r comes under it and takes the label of the opening where one is named, the other old nodes keep their parents and labels
-pub shows-root : {capacity : ℕ} {p : PlainList} {up up′ label label′ : ℕ → ℕ} {r : ℕ} → Proper capacity p → Shows up label p → (named : Bool) (opening : ℕ)
-    → ((x : ℕ) → x < countOf p → label′ x ≡ pick (named && eqb x r) opening (label x)) → r < countOf p
-    → ((x : ℕ) → x < countOf p → x ≢ r → up′ x ≡ up x) → up′ r ≡ countOf p → up′ (countOf p) ≡ none → label′ (countOf p) ≡ 0
-    → Shows up′ label′ (withRoot p r named opening)
-shows-root {p = p} {r = r} t s named opening relabelled k stay turned new labelled = record {
-  parents = λ x i. elim (ℕ-discrete x (countOf p)) [
-    | yes e ↦ rw e (new ∙ sym (root-parent-new p r named opening))
-    | no d ↦ let j = old x i d in elim (ℕ-discrete x r) [
-      | yes e ↦ rw e (turned ∙ sym (root-parent-old p r named opening k))
-      | no f ↦ stay x j f ∙ s .parents x j ∙ sym (root-parent-other p r named opening x j f)
-    ]
-  ];
-  labels = λ x i. elim (ℕ-discrete x (countOf p)) [
-    | yes e ↦ rw e (labelled ∙ sym (root-label-new p r named opening (t .labelled)))
-    | no d ↦
-        let j = old x i d in
-        relabelled x j ∙ ap (pick (named && eqb x r) opening) (s .labels x j) ∙ sym (root-label-old p r named opening (t .labelled) x j)
-  ];
+-- a node more, of parent v, label l and face f: the old nodes keep theirs
+pub shows-node : {capacity : ℕ} {p : PlainList} {up up′ label label′ face face′ : ℕ → ℕ} → Proper capacity p → Shows up label face p
+    → ((x : ℕ) → x < countOf p → label′ x ≡ label x) → ((x : ℕ) → x < countOf p → face′ x ≡ face x) → {v l f : ℕ}
+    → ((x : ℕ) → x < countOf p → up′ x ≡ up x) → up′ (countOf p) ≡ v → label′ (countOf p) ≡ l → face′ (countOf p) ≡ f
+    → Shows up′ label′ face′ (withNode p v l f)
+unfolding withNode
+shows-node {p = p} t s labels-stay faces-stay {v} {l} {f} stay new labelled faced = record {
+  parents = λ x i. gives-more none (p .parents) refl (s .parents) stay new x (known x i);
+  labels = λ x i. gives-more 0 (p .labels) (t .labelled) (s .labels) labels-stay labelled x (known x i);
+  faces = λ x i. gives-more 0 (p .faces) (t .faced) (s .faces) faces-stay faced x (known x i);
 }
   where
-    old : (x : ℕ) → x < countOf (withRoot p r named opening) → x ≢ countOf p → x < countOf p
-    old x i d = omega (arith, root-count p r named opening)
+    known : (x : ℕ) → x < countOf (withNode p v l f) → x < suc (countOf p)
+    known x i = omega (arith, node-count p v l f)
 
--- A link: x comes under v and has the label of the door, the other nodes keep theirs
+-- a new root: r comes under it, takes the label of the opening and is front where one is named, the other old nodes keep theirs
+pub shows-root : {capacity : ℕ} {p : PlainList} {up up′ label label′ face face′ : ℕ → ℕ} {r : ℕ} → Proper capacity p → Shows up label face p
+    → (named : Bool) (opening : ℕ) → ((x : ℕ) → x < countOf p → label′ x ≡ pick (named && eqb x r) opening (label x))
+    → ((x : ℕ) → x < countOf p → face′ x ≡ pick (named && eqb x r) 0 (face x))
+    → ((x : ℕ) → x < countOf p → x ≢ r → up′ x ≡ up x) → up′ r ≡ countOf p → up′ (countOf p) ≡ none → label′ (countOf p) ≡ 0 → face′ (countOf p) ≡ 0
+    → Shows up′ label′ face′ (withRoot p r named opening)
+unfolding withNode
+shows-root {p = p} {r = r} t s named opening relabelled refaced stay turned new labelled faced =
+    let old = under p r (countOf p) named opening in
+    let parents = gives-set none (p .parents) refl (s .parents) turned stay in
+    let labels = gives-named 0 (p .labels) (t .labelled) (s .labels) r opening named relabelled in
+    let faces = gives-named 0 (p .faces) (t .faced) (s .faces) r 0 named refaced in
+    record {
+      parents = λ x i. gives-more none (old .parents) (length-set (p .parents) r (countOf p)) parents (λ _ _. refl) new x (known x i);
+      labels = λ x i. gives-more 0 (old .labels) (length-named (p .labels) r _ named ∙ t .labelled) labels (λ _ _. refl) labelled x (known x i);
+      faces = λ x i. gives-more 0 (old .faces) (length-named (p .faces) r _ named ∙ t .faced) faces (λ _ _. refl) faced x (known x i);
+    }
+  where
+    known : (x : ℕ) → x < countOf (withRoot p r named opening) → x < suc (countOf p)
+    known x i = omega (arith, root-count p r named opening)
 
-pub shows-link : {capacity : ℕ} {p : PlainList} {up up′ label label′ : ℕ → ℕ} {x v door : ℕ} → Proper capacity p → Shows up label p → x < countOf p
-    → up′ x ≡ v → label′ x ≡ door → ((w : ℕ) → w < countOf p → w ≢ x → up′ w ≡ up w) → ((w : ℕ) → w < countOf p → w ≢ x → label′ w ≡ label w)
-    → Shows up′ label′ (withLink p x v door)
-shows-link {p = p} {x = x} {v} {door} t s k under labelled stay keep = record {
-  parents = λ w i. let j = known w i in elim (ℕ-discrete w x) [
-    | yes e ↦ rw e (under ∙ sym (link-parent-root p x v door k))
-    | no d ↦ stay w j d ∙ s .parents w j ∙ sym (link-parent-other p x v door w d)
-  ];
-  labels = λ w i. let j = known w i in elim (ℕ-discrete w x) [
-    | yes e ↦ rw e (labelled ∙ sym (link-label-root p x v door (t .labelled) k))
-    | no d ↦ keep w j d ∙ s .labels w j ∙ sym (link-label-other p x v door w d)
-  ];
+-- A link: x comes under v, has the label of the door and is front, the other nodes keep theirs
+
+pub shows-link : {capacity : ℕ} {p : PlainList} {up up′ label label′ face face′ : ℕ → ℕ} {x v door : ℕ} → Proper capacity p → Shows up label face p
+    → up′ x ≡ v → label′ x ≡ door → face′ x ≡ 0 → ((w : ℕ) → w < countOf p → w ≢ x → up′ w ≡ up w)
+    → ((w : ℕ) → w < countOf p → w ≢ x → label′ w ≡ label w) → ((w : ℕ) → w < countOf p → w ≢ x → face′ w ≡ face w)
+    → Shows up′ label′ face′ (withLink p x v door)
+unfolding withLink
+shows-link {p = p} {x = x} {v} {door} t s moved labelled faced stay keep keep-faces = record {
+  parents = λ w i. gives-set none (p .parents) refl (s .parents) moved stay w (known w i);
+  labels = λ w i. gives-set 0 (p .labels) (t .labelled) (s .labels) labelled keep w (known w i);
+  faces = λ w i. gives-set 0 (p .faces) (t .faced) (s .faces) faced keep-faces w (known w i);
 }
   where
     known : (w : ℕ) → w < countOf (withLink p x v door) → w < countOf p

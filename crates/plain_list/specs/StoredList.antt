@@ -24,7 +24,7 @@ storedParent l x = getD l x none
 -- what a new node is stored under: a leaf under its parent, a new root under the present root, a first node under none
 abbrev pub storedUnder : PlainList → PlainCall → ℕ
 storedUnder p (first scratch) = none
-storedUnder p (leaf parent label scratch) = parent
+storedUnder p (leaf parent label face scratch) = parent
 storedUnder p (root named opening scratch) = pick (eqb (countOf p) 0) none (rootIn p 0)
 storedUnder p (rootOver x named opening scratch) = x
 storedUnder p (link x v door scratch) = none
@@ -39,7 +39,7 @@ relinked p l x v door w = pick (eqb (rootIn p w) x) (parentOf (withLink p x v do
 -- the stored list after a link
 abbrev pub storedLink : PlainList → StoredList → PlainCall → StoredList
 storedLink p l (first scratch) = l
-storedLink p l (leaf parent label scratch) = l
+storedLink p l (leaf parent label face scratch) = l
 storedLink p l (root named opening scratch) = l
 storedLink p l (rootOver x named opening scratch) = l
 storedLink p l (link x v door scratch) = tabulate (relinked p l x v door) (length l)

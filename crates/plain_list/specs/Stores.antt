@@ -17,7 +17,7 @@ use Rattle.tree_laws.specs.DepthLaws.{depth-forest}
 use Rattle.tree_laws.specs.Size.{size}
 use Rattle.tree_laws.specs.SizeDepth.{depth-below}
 use Rattle.plain_list.specs.PlainList.{PlainList, parentOf, withLink}
-use Rattle.plain_list.specs.PlainListLaws.{length-one-more}
+use Rattle.plain_list.specs.Column.{length-one-more}
 use Rattle.plain_list.specs.Naive.{ancestorsOf, isIn}
 use Rattle.plain_list.specs.AnswerLaws.{forest-agree, anc-agree, anc-agree-back}
 use Rattle.plain_list.specs.NaiveLaws.{says-above}

@@ -41,7 +41,7 @@ unasked = code "-"
 
 abbrev pub letterOf : Call → ℕ
 letterOf (first s) = unasked
-letterOf (leaf v l s) = code "L"
+letterOf (leaf v l a s) = code "L"
 letterOf (root named opening s) = code "T"
 letterOf (rootOver x named opening s) = unasked
 letterOf (link x v door s) = unasked

@@ -32,10 +32,10 @@ growth-report q t w s g r o = rw (o .shown, o .rows, o .state)
 
 -- from the parts t and the tally w to u and w′
 module _ (t u : Parts) (w w′ : List ℕ) (s : State) (g : Outcome) (r : Served) where
-  pub leaf-report : (v l : ℕ) (scratch : List ℕ) → result u w′ g ≡ addLeaf t w (length scratch) s v l → OfGrowth (letterOf (leaf v l scratch)) u s g r
-      → reportOf u w′ r ≡ report (fastOf t w s) (leaf v l scratch)
+  pub leaf-report : (v l a : ℕ) (scratch : List ℕ) → result u w′ g ≡ addLeaf t w (length scratch) s v l a → OfGrowth (letterOf (leaf v l a scratch)) u s g r
+      → reportOf u w′ r ≡ report (fastOf t w s) (leaf v l a scratch)
   unfolding report step
-  leaf-report v l scratch e o = rw (← e) (growth-report (leaf v l scratch) u w′ s g r o)
+  leaf-report v l a scratch e o = rw (← e) (growth-report (leaf v l a scratch) u w′ s g r o)
 
   pub root-report : (named : Bool) (opening : ℕ) (scratch : List ℕ) → result u w′ g ≡ addRoot t w (length scratch) s named opening
       → OfGrowth (letterOf (root named opening scratch)) u s g r → reportOf u w′ r ≡ report (fastOf t w s) (root named opening scratch)

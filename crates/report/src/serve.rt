@@ -3,7 +3,7 @@ use crate::reply::Shown;
 use crate::reply::answered;
 use crate::reply::compared;
 use crate::reply::grown;
-use alike::same_labels;
+use alike::are_alike;
 use growth::Grown;
 use growth::add_leaf;
 use growth::add_root;
@@ -60,8 +60,9 @@ pub fn serve_leaf(
     state: State,
     parent: u16,
     label: u16,
+    face: u16,
 ) -> Served
-    ensures { λ r. ⌜ reportOf (partsOf (now (fields .exit)) (now (numbers .exit)) (now (levels .exit)) (now (ancestors .exit))) (now (tally .exit)) r ≡ report (fastOf (partsOf (now (fields .entry)) (now (numbers .entry)) (now (levels .entry)) (now (ancestors .entry))) (now (tally .entry)) state) (leaf parent label (now (scratch .entry))) ⌝ }
+    ensures { λ r. ⌜ reportOf (partsOf (now (fields .exit)) (now (numbers .exit)) (now (levels .exit)) (now (ancestors .exit))) (now (tally .exit)) r ≡ report (fastOf (partsOf (now (fields .entry)) (now (numbers .entry)) (now (levels .entry)) (now (ancestors .entry))) (now (tally .entry)) state) (leaf parent label face (now (scratch .entry))) ⌝ }
 {
     let g = add_leaf(
         fields,
@@ -73,6 +74,7 @@ pub fn serve_leaf(
         state,
         parent,
         label,
+        face,
     );
     after_growth(b'L', levels, state, g)
 }
@@ -136,7 +138,7 @@ pub fn serve_alike(
 ) -> Served
     ensures { λ r. ⌜ ((w : List ℕ) → reportOf (partsOf (now (fields .entry)) (now (numbers .entry)) (now (levels .entry)) (now (ancestors .entry))) w r ≡ report (fastOf (partsOf (now (fields .entry)) (now (numbers .entry)) (now (levels .entry)) (now (ancestors .entry))) w state) (alike x y)) ⌝ }
 {
-    let c = same_labels(fields, numbers, levels, ancestors, state, x, y);
+    let c = are_alike(fields, numbers, levels, ancestors, state, x, y);
     Served {
         state: state,
         rows: 0,

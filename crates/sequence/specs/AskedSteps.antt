@@ -33,7 +33,7 @@ use Rattle.plain_list.specs.PlainStep.{PlainReply, PlainOutcome, replies as pla
 use Rattle.plain_list.specs.PlainStep.{question as plainQuestion, alike as plainAlike, inspection as plainInspection, refusalOf, rootIn, plainOutcome}
 use Rattle.plain_list.specs.PlainStepLaws.{question-served, alike-served, inspection-served}
 use Rattle.plain_list.specs.PlainStepLaws.{question-unknown, question-apart, alike-unknown, alike-apart, inspection-misfit}
-use Rattle.plain_list.specs.Shows.{roots-kindred, kindred-roots, naive-is, naive-same-is}
+use Rattle.plain_list.specs.Shows.{roots-kindred, kindred-roots, naive-is, naive-alike-is}
 use Rattle.plain_list.specs.StoredList.{StoredList}
 use Rattle.sequence.specs.Calls.{Call, question, alike, inspection, Reply, refusal, same, passes}
 use Rattle.sequence.specs.Run.{Fast, tableIn, Turn, replies, questionReply, alikeReply, inspectionReply, step}
@@ -114,7 +114,7 @@ module _ {c : ℕ} {f : Fast} {p : PlainList} {stored : StoredList} {total joini
         let e = alike-exact (f .parts) (f .state) x y (s .fits) (s .rules) (in-use s l) (in-use s m) (one-tree x y l m k) in
         let b : Bool = e .value in
         steps-by (alike x y) (plainSame (bit b)) (same (bit b))
-        (alike-served c p x y l m k ∙ ap (λ (a : Bool). plainReplies (plainSame (bit a)) p) (naive-same-is (s .proper) (s .shows) l m (e .says)))
+        (alike-served c p x y l m k ∙ ap (λ (a : Bool). plainReplies (plainSame (bit a)) p) (naive-alike-is (s .proper) (s .shows) l m (e .says)))
         (ap (λ (o : AlikeOutcome). replies f (alikeReply o)) (e .outcome))
         (still s (alike x y) (alikes (bit b)) refl (λ n k h e. let z : _≡_ {A = ℕ} 0 1 = cc in omega arith) (λ k h e. let z : _≡_ {A = ℕ} 0 1 = cc in omega arith))
 

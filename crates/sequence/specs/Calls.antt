@@ -11,7 +11,7 @@ use Rattle.plain_list.specs.PlainStep.{question as plainQuestion, alike as plai
 -- which names no node; `named` is whether a new root names an opening, the label that the old root takes; `door` is the label that a linked root takes
 pub data Call : Type 0 where
   first : (scratch : List ℕ) → Call
-  leaf : (parent label : ℕ) (scratch : List ℕ) → Call
+  leaf : (parent label face : ℕ) (scratch : List ℕ) → Call
   root : (named : Bool) (opening : ℕ) (scratch : List ℕ) → Call
   rootOver : (x : ℕ) (named : Bool) (opening : ℕ) (scratch : List ℕ) → Call
   link : (x v door : ℕ) (scratch : List ℕ) → Call
@@ -22,7 +22,7 @@ pub data Call : Type 0 where
 -- what the plain list is told of a call: of the scratch only its length
 abbrev pub told : Call → PlainCall
 told (first s) = plainFirst (length s)
-told (leaf v l s) = plainLeaf v l (length s)
+told (leaf v l a s) = plainLeaf v l a (length s)
 told (root named opening s) = plainRoot named opening (length s)
 told (rootOver x named opening s) = plainOver x named opening (length s)
 told (link x v door s) = plainLink x v door (length s)

@@ -11,18 +11,18 @@ use lib.ListN.{length}
 use Rattle.laws.specs.Test.{says-true, says-false, says-get}
 use Rattle.tree_laws.specs.Ancestor.{none}
 use Rattle.table.specs.declared.refusal.Refusal.{Refusal}
-use Rattle.table.specs.declared.refusal.Refusal.the-variants.{UnknownNode, Full, Misfit, BadLabel, NotRoot}
+use Rattle.table.specs.declared.refusal.Refusal.the-variants.{UnknownNode, Full, Misfit, BadLabel, NotRoot, BadFace}
 use Rattle.table.specs.Refusal.{numberOf}
 use Rattle.table.specs.PlainTree.{plain, root as rootOf}
-use Rattle.table.specs.Rules.{labelLimit}
+use Rattle.table.specs.Rules.{labelLimit, faceLimit}
 use Rattle.table_laws.specs.TreeTests.{root-is}
 use Rattle.growth_plan.specs.declared.row.Planned.the-variants.{Refuse}
 use Rattle.growth_plan.specs.Plan.{isOpening, firstPlan, leafPlan, overPlan, rootPlan}
-use Rattle.growth_plan.specs.PlanLaws.{leaf-scratch, leaf-unknown, leaf-label, leaf-full, first-scratch, first-full, root-scratch, root-label, root-full}
+use Rattle.growth_plan.specs.PlanLaws.{leaf-scratch, leaf-unknown, leaf-label, leaf-face, leaf-full, first-scratch, first-full, root-scratch, root-label, root-full}
 use Rattle.growth_plan.specs.PlanLaws.{over-scratch, over-unknown, over-label, over-other, over-full}
 use Rattle.growth.specs.Growth.{Result, addFirst, addLeaf, addOver, addRoot}
 use Rattle.growth_laws.specs.Growth.{leaf as newLeaf, root as newRoot}
-use Rattle.growth_exact.specs.GivenLabel.{says-label, says-opening}
+use Rattle.growth_exact.specs.GivenMarks.{says-label, says-face, says-opening}
 use Rattle.growth_exact.specs.GrowthExact.{GrownExactly, tableGrown, standing-is, rooted, leaf-exact, over-exact, root-exact}
 use Rattle.growth_exact.specs.FirstExact.{StartedExactly, first-exact, root-first-exact}
 use Rattle.plain_list.specs.PlainList.{PlainList, countOf, parentOf, withFirst, withLeaf, withRoot}
@@ -57,28 +57,31 @@ module _ {c : ℕ} {f : Fast} {p : PlainList} {stored : StoredList} {total joini
   first-next : {o : Result} → countOf p ≢ c → StartedExactly c (f .parts) (f .state) o → Next s (tableGrown (f .state) o) (withFirst p)
   first-next {o} n e = record {
     proper = proper-first small (s .proper) n;
-    shows = shows-node (s .proper) (s .shows) (λ x i. e .plain .labelOld x (in-use s i)) (λ x i. e .plain .parentOld x (in-use s i))
-        (ap (plain (tableGrown (f .state) o)) (s .count) ∙ e .plain .parentNew) (ap (tableGrown (f .state) o .label) (s .count) ∙ e .plain .labelNew);
-    count = node-count p none 0;
+    shows = shows-node (s .proper) (s .shows) (λ x i. e .plain .labelOld x (in-use s i)) (λ x i. e .plain .faceOld x (in-use s i))
+        (λ x i. e .plain .parentOld x (in-use s i)) (ap (plain (tableGrown (f .state) o)) (s .count) ∙ e .plain .parentNew)
+        (ap (tableGrown (f .state) o .label) (s .count) ∙ e .plain .labelNew) (ap (tableGrown (f .state) o .face) (s .count) ∙ e .plain .faceNew);
+    count = node-count p none 0 0;
   }
 
-  leaf-next : {v l : ℕ} {o : Result} → countOf p ≢ c → v < countOf p → GrownExactly c (f .parts) (f .state) (newLeaf v l) o
-      → Next s (tableGrown (f .state) o) (withLeaf p v l)
-  leaf-next {v} {l} {o} n h e = record {
-    proper = proper-leaf small (s .proper) n l h;
-    shows = shows-node (s .proper) (s .shows) (λ x i. e .plain .labelOld x (in-use s i)) (λ x i. e .plain .parentOld x (in-use s i))
-        (ap (plain (tableGrown (f .state) o)) (s .count) ∙ e .plain .parentNew) (ap (tableGrown (f .state) o .label) (s .count) ∙ e .plain .labelNew);
-    count = node-count p v l;
+  leaf-next : {v l a : ℕ} {o : Result} → countOf p ≢ c → v < countOf p → GrownExactly c (f .parts) (f .state) (newLeaf v l a) o
+      → Next s (tableGrown (f .state) o) (withLeaf p v l a)
+  leaf-next {v} {l} {a} {o} n h e = record {
+    proper = proper-leaf small (s .proper) n l a h;
+    shows = shows-node (s .proper) (s .shows) (λ x i. e .plain .labelOld x (in-use s i)) (λ x i. e .plain .faceOld x (in-use s i))
+        (λ x i. e .plain .parentOld x (in-use s i)) (ap (plain (tableGrown (f .state) o)) (s .count) ∙ e .plain .parentNew)
+        (ap (tableGrown (f .state) o .label) (s .count) ∙ e .plain .labelNew) (ap (tableGrown (f .state) o .face) (s .count) ∙ e .plain .faceNew);
+    count = node-count p v l a;
   }
 
   root-next : (named : Bool) (opening : ℕ) {r : ℕ} {o : Result} → countOf p ≢ c → r < countOf p → parentOf p r ≡ none
       → GrownExactly c (f .parts) (f .state) (newRoot r named opening) o → Next s (tableGrown (f .state) o) (withRoot p r named opening)
   root-next named opening {r} {o} n h t e = record {
     proper = proper-root small (s .proper) n named opening h t;
-    shows = shows-root (s .proper) (s .shows) named opening (λ x i. e .plain .labelOld x (in-use s i)) h
+    shows = shows-root (s .proper) (s .shows) named opening (λ x i. e .plain .labelOld x (in-use s i)) (λ x i. e .plain .faceOld x (in-use s i))
         (λ x i d. e .plain .parentOld x (in-use s i) ∙ (rw (ne-eqb x r d) refl))
         (e .plain .parentOld r (in-use s h) ∙ (rw (eq-eqb r r refl) (sym (s .count))))
-        (ap (plain (tableGrown (f .state) o)) (s .count) ∙ e .plain .parentNew) (ap (tableGrown (f .state) o .label) (s .count) ∙ e .plain .labelNew);
+        (ap (plain (tableGrown (f .state) o)) (s .count) ∙ e .plain .parentNew) (ap (tableGrown (f .state) o .label) (s .count) ∙ e .plain .labelNew)
+        (ap (tableGrown (f .state) o .face) (s .count) ∙ e .plain .faceNew);
     count = root-count p r named opening;
   }
 
@@ -110,46 +113,55 @@ module _ {c : ℕ} {f : Fast} {p : PlainList} {stored : StoredList} {total joini
 
   -- Leaf
 
-  module _ (v l : ℕ) (scratch : List ℕ) where
-    leaf-refused : (r : Refusal) → plainOutcome c p (plainLeaf v l (length scratch)) ≡ refusalOf (numberOf r) p
-        → Refuse r ≡ leafPlan (f .parts) (length scratch) (f .state) v l
-        → StepStands c f p stored total joinings (leaf v l scratch) (plainOutcome c p (plainLeaf v l (length scratch))) (step f (leaf v l scratch))
+  module _ (v l a : ℕ) (scratch : List ℕ) where
+    abbrev LeafStep : Type 0
+    LeafStep = StepStands c f p stored total joinings (leaf v l a scratch) (plainOutcome c p (plainLeaf v l a (length scratch))) (step f (leaf v l a scratch))
+
+    leaf-refused : (r : Refusal) → plainOutcome c p (plainLeaf v l a (length scratch)) ≡ refusalOf (numberOf r) p
+        → Refuse r ≡ leafPlan (f .parts) (length scratch) (f .state) v l a → LeafStep
     unfolding step addLeaf
-    leaf-refused r e i = grown-refused s (leaf v l scratch) r _ e i
+    leaf-refused r e i = grown-refused s (leaf v l a scratch) r _ e i
 
-    leaf-served : length scratch ≡ c → v < countOf p → 1 ≤ l → l ≤ labelLimit → countOf p ≢ c
-        → StepStands c f p stored total joinings (leaf v l scratch) (plainOutcome c p (plainLeaf v l (length scratch))) (step f (leaf v l scratch))
-    unfolding step
-    leaf-served e h i j n =
-        let x = leaf-exact (f .parts) (f .tally) (f .state) (s .fits) (s .rules) (s .tally) (length scratch) e (room n) v l (in-use s h) i j in
-        rw (plainly.leaf-served c p v l (length scratch) e h i j n) (grown-step s _ x asks-leaf (leaf-next n h x))
+    module _ (e : length scratch ≡ c) (h : v < countOf p) where
+      leaf-served : 1 ≤ l → l ≤ labelLimit → a ≤ faceLimit → countOf p ≢ c → LeafStep
+      unfolding step
+      leaf-served i j m n =
+          let x = leaf-exact (f .parts) (f .tally) (f .state) (s .fits) (s .rules) (s .tally) (length scratch) e (room n) v l a (in-use s h) i j m in
+          rw (plainly.leaf-served c p v l a (length scratch) e h i j m n) (grown-step s _ x asks-leaf (leaf-next n h x))
 
-    leaf-unlabelled : length scratch ≡ c → v < countOf p → ¬ ((1 ≤ l) × (l ≤ labelLimit))
-        → StepStands c f p stored total joinings (leaf v l scratch) (plainOutcome c p (plainLeaf v l (length scratch))) (step f (leaf v l scratch))
-    leaf-unlabelled e h d = leaf-refused BadLabel (plainly.leaf-no-label c p v l (length scratch) e h d)
-        (leaf-label (f .parts) (length scratch) (f .state) v l c (fit s) e (in-use s h) (says-false (says-label l) d))
+      leaf-unlabelled : ¬ ((1 ≤ l) × (l ≤ labelLimit)) → LeafStep
+      leaf-unlabelled d = leaf-refused BadLabel (plainly.leaf-no-label c p v l a (length scratch) e h d)
+          (leaf-label (f .parts) (length scratch) (f .state) v l a c (fit s) e (in-use s h) (says-false (says-label l) d))
 
-    pub leaf-step : StepStands c f p stored total joinings (leaf v l scratch) (plainOutcome c p (plainLeaf v l (length scratch))) (step f (leaf v l scratch))
+      leaf-labelled : 1 ≤ l → l ≤ labelLimit → LeafStep
+      leaf-labelled i j = elim (decLt faceLimit a) [
+        | yes d ↦
+            let n : ¬ (a ≤ faceLimit) = λ z. omega arith in
+            leaf-refused BadFace (plainly.leaf-no-face c p v l a (length scratch) e h i j n)
+            (leaf-face (f .parts) (length scratch) (f .state) v l a c (fit s) e (in-use s h) (says-true (says-label l) (i, j)) (says-false (says-face a) n))
+        | no d ↦
+            let m : a ≤ faceLimit = omega arith in
+            elim (ℕ-discrete (countOf p) c) [
+              | yes w ↦ leaf-refused Full (plainly.leaf-full c p v l a (length scratch) e h i j m w)
+                  (leaf-full (f .parts) (length scratch) (f .state) v l a c (fit s) e (in-use s h)
+                  (says-true (says-label l) (i, j)) (says-true (says-face a) m) (sym (s .count) ∙ w))
+              | no w ↦ leaf-served i j m w
+            ]
+      ]
+
+      leaf-known : LeafStep
+      leaf-known = elim (decLt l 1) [
+        | yes d ↦ leaf-unlabelled (λ z. omega (arith, z .0))
+        | no i ↦ elim (decLt labelLimit l) [ yes d ↦ leaf-unlabelled (λ z. omega (arith, z .1)) | no j ↦ leaf-labelled (omega arith) (omega arith) ]
+      ]
+
+    pub leaf-step : LeafStep
     leaf-step = elim (ℕ-discrete (length scratch) c) [
-      | no d ↦ leaf-refused Misfit (plainly.leaf-misfit c p v l (length scratch) d) (leaf-scratch (f .parts) (length scratch) (f .state) v l c (fit s) d)
+      | no d ↦ leaf-refused Misfit (plainly.leaf-misfit c p v l a (length scratch) d) (leaf-scratch (f .parts) (length scratch) (f .state) v l a c (fit s) d)
       | yes e ↦ elim (decLt v (countOf p)) [
-        | no d ↦ leaf-refused UnknownNode (plainly.leaf-unknown c p v l (length scratch) e (omega arith))
-            (leaf-unknown (f .parts) (length scratch) (f .state) v l c (fit s) e (omega (arith, s .count)))
-        | yes h ↦ elim (decLt l 1) [
-          | yes d ↦ leaf-unlabelled e h (λ z. omega (arith, z .0))
-          | no i ↦ elim (decLt labelLimit l) [
-            | yes d ↦ leaf-unlabelled e h (λ z. omega (arith, z .1))
-            | no j ↦
-                let a : 1 ≤ l = omega arith in
-                let b : l ≤ labelLimit = omega arith in
-                elim (ℕ-discrete (countOf p) c) [
-                  | yes w ↦ leaf-refused Full (plainly.leaf-full c p v l (length scratch) e h a b w)
-                      (leaf-full (f .parts) (length scratch) (f .state) v l c (fit s) e (in-use s h)
-                      (says-true (says-label l) (a, b)) (sym (s .count) ∙ w))
-                  | no w ↦ leaf-served e h a b w
-                ]
-          ]
-        ]
+        | no d ↦ leaf-refused UnknownNode (plainly.leaf-unknown c p v l a (length scratch) e (omega arith))
+            (leaf-unknown (f .parts) (length scratch) (f .state) v l a c (fit s) e (omega (arith, s .count)))
+        | yes h ↦ leaf-known e h
       ]
     ]
 

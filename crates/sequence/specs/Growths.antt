@@ -51,7 +51,7 @@ module _ {c : ℕ} {f : Fast} {p : PlainList} {stored : StoredList} {total joini
   -- p′ is the plain list after one node more, which left the table d
   pub record Next (d : Table) (p′ : PlainList) : Type 0 where
     pub proper : Proper c p′
-    pub shows : Shows (plain d) (d .label) p′
+    pub shows : Shows (plain d) (d .label) (d .face) p′
     pub count : countOf p′ ≡ suc (countOf p)
 
   -- the stored list has the new node under the row that the table has it under

@@ -32,7 +32,7 @@ pub record Stands (c : ℕ) (f : Fast) (p : PlainList) (l : StoredList) (total j
   pub rules : Rules c (tableIn f)
   pub tally : TallyOf (tableIn f) (f .tally)
   pub proper : Proper c p
-  pub shows : Shows (plain (tableIn f)) (tableIn f .label) p
+  pub shows : Shows (plain (tableIn f)) (tableIn f .label) (tableIn f .face) p
   pub count : countOf p ≡ f .state .count
   pub stored : Stores (parent (tableIn f .layer)) (f .state .count) l
   pub paid : Paid (tableIn f .layer) total joinings
@@ -68,7 +68,7 @@ module _ (c : ℕ) (parts : Parts) (tally : List ℕ) (f : Fits c parts) (long :
     rules = empty-rules c (tableIn (start parts tally)) refl;
     tally = start-tallied;
     proper = proper-empty;
-    shows = shows-empty (plain (tableIn (start parts tally))) (tableIn (start parts tally) .label);
+    shows = shows-empty (plain (tableIn (start parts tally))) (tableIn (start parts tally) .label) (tableIn (start parts tally) .face);
     count = refl;
     stored = stores-empty (parent (tableIn (start parts tally) .layer));
     paid = total-empty (tableIn (start parts tally)) refl;

@@ -21,7 +21,7 @@ use Rattle.layer.specs.Layer.{parent}
 use Rattle.layer.specs.StoredTree.{first}
 use Rattle.table.specs.Rules.{labelLimit}
 use Rattle.growth_plan.specs.Plan.{isLabel}
-use Rattle.growth_exact.specs.GivenLabel.{says-label}
+use Rattle.growth_exact.specs.GivenMarks.{says-label}
 use Rattle.link_laws.specs.Link.{Linkable, target}
 use Rattle.link_laws.specs.LinkLaws.{link-stored}
 use Rattle.link_laws.specs.Order.{isOfTree, treeRows}
@@ -108,12 +108,15 @@ module _ {c : ℕ} {f : Fast} {p : PlainList} {stored : StoredList} {total joine
         proper : Proper c (withLink p x v door)
         proper = proper-link (s .proper) door h i top d
 
-        shows : Shows (plain (tableOf (o .parts) (f .state .count))) (tableOf (o .parts) (f .state .count) .label) (withLink p x v door)
-        shows = shows-link (s .proper) (s .shows) h
+        shows : Shows (plain (tableOf (o .parts) (f .state .count))) (tableOf (o .parts) (f .state .count) .label) (tableOf (o .parts) (f .state .count) .face)
+            (withLink p x v door)
+        shows = shows-link (s .proper) (s .shows)
             (e .plain .under)
             (e .plain .labelled)
+            (e .plain .faced)
             (λ w l n. e .plain .parents w (in-use s l) n)
             (λ w l n. e .plain .labels w (in-use s l) n)
+            (λ w l n. e .plain .faces w (in-use s l) n)
 
         count : countOf (withLink p x v door) ≡ f .state .count
         count = link-count p x v door ∙ s .count

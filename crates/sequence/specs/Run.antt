@@ -77,7 +77,7 @@ inspectionReply (inspectionPasses b) = passes b
 -- one call
 unfoldable pub step : Fast → Call → Turn
 step f (first s) = afterGrowth (f .state) (addFirst (f .parts) (f .tally) (length s) (f .state))
-step f (leaf v l s) = afterGrowth (f .state) (addLeaf (f .parts) (f .tally) (length s) (f .state) v l)
+step f (leaf v l a s) = afterGrowth (f .state) (addLeaf (f .parts) (f .tally) (length s) (f .state) v l a)
 step f (root named opening s) = afterGrowth (f .state) (addRoot (f .parts) (f .tally) (length s) (f .state) named opening)
 step f (rootOver x named opening s) = afterGrowth (f .state) (addOver (f .parts) (f .tally) (length s) (f .state) x named opening)
 step f (link x v door s) = afterLink (f .state) (linkBy (f .parts) (f .tally) (length s) (f .state) x v door)

@@ -53,12 +53,12 @@ pub record SequenceExact (c : ℕ) (parts : Parts) (w : List ℕ) (calls : List 
   pub each : EachExact c (start parts w) emptyList [] calls
   -- the rows renumbered by all calls together
   pub total : totalIn (run (start parts w) calls .replies) ≤ rowsPerJoining * plainRun c emptyList (toldAll calls) .joinings
-  -- at the end the parts fit, the table passes inspection, its count, plain trees and labels are the plain list's, its stored trees the stored list's, and
+  -- at the end the parts fit, the table passes inspection, its count, plain trees, labels and faces are the plain list's, its stored trees the stored list's, and
   -- the tally is the full count over the plain list's labels
   pub fits : Fits c (run (start parts w) calls .last .parts)
   pub rules : Rules c (tableIn (run (start parts w) calls .last))
   pub count : countOf (plainRun c emptyList (toldAll calls) .last) ≡ run (start parts w) calls .last .state .count
-  pub shows : Shows (plain (tableIn (run (start parts w) calls .last))) (tableIn (run (start parts w) calls .last) .label) (plainRun c emptyList (toldAll calls) .last)
+  pub shows : Shows (plain (tableIn (run (start parts w) calls .last))) (tableIn (run (start parts w) calls .last) .label) (tableIn (run (start parts w) calls .last) .face) (plainRun c emptyList (toldAll calls) .last)
   pub stored : Stores (parent (tableIn (run (start parts w) calls .last) .layer)) (run (start parts w) calls .last .state .count)
       (storedRun c emptyList [] (toldAll calls))
   pub tally : PlainTally (plainRun c emptyList (toldAll calls) .last) (run (start parts w) calls .last .tally)
@@ -68,7 +68,7 @@ pub record SequenceExact (c : ℕ) (parts : Parts) (w : List ℕ) (calls : List 
 module _ {c : ℕ} {f : Fast} {p : PlainList} {l : StoredList} {total joinings : ℕ} (s : Stands c f p l total joinings) where
   pub step-exact : (q : Call) → StepStands c f p l total joinings q (plainOutcome c p (told q)) (step f q)
   step-exact (first scratch) = first-step s scratch
-  step-exact (leaf v l scratch) = leaf-step s v l scratch
+  step-exact (leaf v l a scratch) = leaf-step s v l a scratch
   step-exact (root named opening scratch) = root-step s named opening scratch
   step-exact (rootOver x named opening scratch) = over-step s x named opening scratch
   step-exact (link x v door scratch) = link-step s x v door scratch

@@ -32,7 +32,7 @@ use Rattle.sequence.specs.Tally.{tally-shown}
 
 -- the growth of table t that a call asks for; 01's new root goes over that of the tree of node 0
 pub data Asks (t : Table) : Call → Growth → Type 0 where
-  asks-leaf : {v l : ℕ} {s : List ℕ} → Asks t (leaf v l s) (newLeaf v l)
+  asks-leaf : {v l a : ℕ} {s : List ℕ} → Asks t (leaf v l a s) (newLeaf v l a)
   asks-root : {named : Bool} {opening : ℕ} {s : List ℕ} → Asks t (root named opening s) (newRoot (rootOf t 0) named opening)
   asks-over : {x : ℕ} {named : Bool} {opening : ℕ} {s : List ℕ} → Asks t (rootOver x named opening s) (newRoot x named opening)
 

@@ -15,7 +15,7 @@ use Rattle.plain_list.specs.PlainTallyLaws.{occurrences-count}
 use Rattle.plain_list.specs.Proper.{Proper}
 use Rattle.plain_list.specs.Shows.{Shows}
 
-module _ {c n : ℕ} {up label : ℕ → ℕ} {p : PlainList} (t : Proper c p) (s : Shows up label p) (count : countOf p ≡ n) where
+module _ {c n : ℕ} {up label face : ℕ → ℕ} {p : PlainList} (t : Proper c p) (s : Shows up label face p) (count : countOf p ≡ n) where
   -- what is counted row by row is what is counted along the list
   full-count : (k : ℕ) → carriers label n k ≡ occurrences (p .labels) k
   unfolding carriers

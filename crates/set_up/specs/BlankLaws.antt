@@ -46,6 +46,7 @@ empty-rules capacity t e = record {
     trees = record { count = omega arith; inside = λ x l. none-in-use x l; depth = λ x l. none-in-use x l; children = λ x l. none-in-use x l };
     lines = record { root = λ x l. none-in-use x l; level = λ x l. none-in-use x l };
     labels = record { most = λ x l. none-in-use x l; root = λ x l. none-in-use x l };
+    faces = record { most = λ x l. none-in-use x l; root = λ x l. none-in-use x l };
   };
   two = record { path = λ x l. none-in-use x l; upper = λ x l. none-in-use x l; size = λ x l. none-in-use x l };
   three = λ x l. none-in-use x l;

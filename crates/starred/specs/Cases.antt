@@ -76,10 +76,10 @@ seen c = seenIn (c .asked) (run (blankTable lent lentTally) (c .calls))
 
 -- fields 1 to 3 of the log, and all seven
 abbrev pub threeFields : List Call
-threeFields = root false 0 scratch ∷ leaf 0 7 scratch ∷ leaf 1 9 scratch ∷ []
+threeFields = root false 0 scratch ∷ leaf 0 7 0 scratch ∷ leaf 1 9 0 scratch ∷ []
 
 abbrev pub sevenFields : List Call
-sevenFields = threeFields ++ question 1 2 ∷ leaf 5 7 scratch ∷ root false 0 scratch ∷ question 2 3 ∷ []
+sevenFields = threeFields ++ question 1 2 ∷ leaf 5 7 0 scratch ∷ root false 0 scratch ∷ question 2 3 ∷ []
 
 abbrev pub threeReplies : List Reply
 threeReplies = node 0 1 0 ∷ node 1 2 0 ∷ node 2 3 0 ∷ []
@@ -89,11 +89,11 @@ sevenReplies = threeReplies ++ answered 1 1 2 (pos 0) (pos 1) 7 ∷ refusal 1 �
 
 -- a root and leaves below it
 abbrev pub star : List Call
-star = root false 0 scratch ∷ leaf 0 1 scratch ∷ leaf 0 2 scratch ∷ leaf 0 3 scratch ∷ leaf 0 4 scratch ∷ leaf 0 5 scratch ∷ leaf 0 6 scratch ∷ []
+star = root false 0 scratch ∷ leaf 0 1 0 scratch ∷ leaf 0 2 0 scratch ∷ leaf 0 3 0 scratch ∷ leaf 0 4 0 scratch ∷ leaf 0 5 0 scratch ∷ leaf 0 6 0 scratch ∷ []
 
 -- a root 0 and its child 1, which is heavy by its leaves 2 and 3; then 4, a light child of the root
 abbrev pub lightAfterHeavy : List Call
-lightAfterHeavy = root false 0 scratch ∷ leaf 0 1 scratch ∷ leaf 1 2 scratch ∷ leaf 1 3 scratch ∷ leaf 0 4 scratch ∷ []
+lightAfterHeavy = root false 0 scratch ∷ leaf 0 1 0 scratch ∷ leaf 1 2 0 scratch ∷ leaf 1 3 0 scratch ∷ leaf 0 4 0 scratch ∷ []
 
 unfoldable pub cases : List Case
 cases =

@@ -39,7 +39,7 @@ use Rattle.join.specs.Attach.{firstOf, firstAfter, nextAfter, parentAfter, newL
 use Rattle.join.specs.Seat.{upperUnder, upperFor, oldHead, headOf, isFirst, isSeated, isWhole, seatAt, seatOf}
 use Rattle.join.specs.Store.{joinedAt}
 use Rattle.join.specs.Lone.{loneFields, loneNumbers, loneEntries}
-use Rattle.growth_store.specs.Store.{marked, planStored}
+use Rattle.growth_store.specs.Store.{given, marked, planStored}
 use Rattle.growth_plan.specs.Level.{levelFrom}
 use Rattle.growth_plan.specs.PlannedRow.{plannedRow}
 use Rattle.growth_plan.specs.Plan.{leafWithin, leafPlan, rootOver, rootWithin, rootPlan}
@@ -55,7 +55,7 @@ use Rattle.query.specs.Line.{isMinus}
 use Rattle.query.specs.PlainAnswer.{lowerX, lowerY, isRead, lowered, plainFrom, plainAnswer}
 use Rattle.query.specs.Question.{isServed, served as answerServed, question}
 use Rattle.alike.specs.PlainParent.{towardRoot, plainUp}
-use Rattle.alike.specs.Walk.{turnAt}
+use Rattle.alike.specs.Walk.{markedAlike, turnAt}
 use Rattle.alike.specs.Alike.{walked, served as alikeServed, alike}
 use Rattle.sequence.specs.Run.{step}
 
@@ -69,9 +69,9 @@ unfolding fourth
     isOnPath upperOf sizeOf numberedDown numberedTo numberWalk entriesFrom aboveOf withEntries renumbered
     isRow levelFrom outgrownAt topFrom raisedAt raised isReadable entered leftRow checkTurn checkWalk areLinks copiesLinks firstOf firstAfter nextAfter parentAfter newLinks
     newValues linked attached upperUnder upperFor oldHead headOf isFirst isSeated isWhole seatAt seatOf joinedAt plannedRow leafWithin leafPlan rootOver rootWithin
-    rootPlan loneFields loneNumbers loneEntries marked planStored served startedFields treeStarted grownAt grownBy addLeaf addRoot
+    rootPlan loneFields loneNumbers loneEntries given marked planStored served startedFields treeStarted grownAt grownBy addLeaf addRoot
     soughtIn covers arrive climb atEntry pastEntry pastReach pastSpan sideFrom isOnRow forked meeting branchOf join between storedFrom
     isNode isMinus lowerX lowerY isRead lowered plainFrom plainAnswer isServed answerServed asked question
-    towardRoot plainUp turnAt walked alikeServed alike
+    towardRoot plainUp markedAlike turnAt walked alikeServed alike
     step
 engine = tt

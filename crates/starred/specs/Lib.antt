@@ -3,3 +3,4 @@ pub mod Cases
 pub mod StarredCases
 pub mod WorkedLog
 pub mod OpeningsLog
+pub mod FacesLog

@@ -50,10 +50,10 @@ openings-log = refl
 abbrev openingsItems : List Item
 openingsItems =
     whole (call (root false 0 scratch))
-    ∷ whole (call (leaf 0 7 scratch))
-    ∷ whole (call (leaf 1 9 scratch))
+    ∷ whole (call (leaf 0 7 0 scratch))
+    ∷ whole (call (leaf 1 9 0 scratch))
     ∷ whole (call (root true 12 scratch))
-    ∷ whole (call (leaf 3 12 scratch))
+    ∷ whole (call (leaf 3 12 0 scratch))
     ∷ whole (call (alike 0 4))
     ∷ whole (call (question 2 4))
     ∷ whole (call (question 0 2))

@@ -46,10 +46,10 @@ worked-log = refl
 abbrev workedItems : List Item
 workedItems =
     whole (call (root false 0 scratch))
-    ∷ whole (call (leaf 0 7 scratch))
-    ∷ whole (call (leaf 1 9 scratch))
+    ∷ whole (call (leaf 0 7 0 scratch))
+    ∷ whole (call (leaf 1 9 0 scratch))
     ∷ whole (call (question 1 2))
-    ∷ whole (call (leaf 5 7 scratch))
+    ∷ whole (call (leaf 5 7 0 scratch))
     ∷ whole (call (root false 0 scratch))
     ∷ whole (call (question 2 3))
     ∷ []

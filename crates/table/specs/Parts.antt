@@ -1,4 +1,4 @@
--- The lent parts of a table, the scratch aside: those of its layer, and the levels. Labels and roots stand in `fields`.
+-- The lent parts of a table, the scratch aside: those of its layer, and the levels. Labels, faces and roots stand in `fields`.
 use mathlib.Core.List.{List}
 use Prim.Native.Nat.{ℕ}
 use lib.IntN.{ℤ, pos}

@@ -1,4 +1,4 @@
-// Why a tree call was not served. 01's words: unknown image, full, misfit, not ours, no panel; 02's: not a source, same tree, no shared source.
+// Why a tree call was not served. 01's words: unknown image, full, misfit, not ours, no panel; 02's: not a source, same tree, no shared source, odd face.
 ghost use mathlib.Core.Path.{_≡_};
 ghost use Rattle.table.specs.Refusal.{numberOf};
 
@@ -11,6 +11,7 @@ pub enum Refusal {
     NotRoot,
     SameTree,
     OtherTree,
+    BadFace,
 }
 
 // 01's number.
@@ -26,5 +27,6 @@ pub fn number_of(r: Refusal) -> u16
         Refusal::NotRoot => 10,
         Refusal::SameTree => 11,
         Refusal::OtherTree => 12,
+        Refusal::BadFace => 13,
     }
 }

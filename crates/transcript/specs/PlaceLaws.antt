@@ -10,7 +10,7 @@ use lib.ListN.{length, getD}
 use Rattle.laws.specs.Test.{pick, bit}
 use Rattle.log.specs.Outcome.{Outcome, end, refusal, field}
 use Rattle.log.specs.Bytes.{allZero}
-use Rattle.log.specs.Field.{listed, fits, values, wholeField as readWhole, bodyAt, nextAt, fieldAt}
+use Rattle.log.specs.Field.{listed, fits, kindOf, values, wholeField as readWhole, bodyAt, nextAt, fieldAt}
 use Rattle.log.specs.FieldLaws.{next-passes, field-end, field-stays, field-moves}
 use Rattle.turn.specs.Asked.{Asked, call, nothing, askedBy}
 use Rattle.turn.specs.Session.{Session, stepBy, stepOf, wholeField}
@@ -35,12 +35,12 @@ module _ (scratch : List ℕ) (s : Session) where
   whole-place : (tag : ℕ) (body : List ℕ) (next : ℕ) → stepBy scratch s (readWhole tag body next) .after .place ≡ next
   unfolding readWhole
   whole-place tag body next =
-      let whole = field tag (values tag body) next in
+      let whole = field (kindOf tag) (values tag body) next in
       let clean = pick (eqb tag 9 && not (allZero body)) (refusal 9 next) whole in
       let fitting = pick (not (fits tag (length body))) (refusal 7 next) clean in
       pick-place next (not (listed tag)) (refusal 6 next) fitting refl
       (pick-place next (not (fits tag (length body))) (refusal 7 next) clean refl
-      (pick-place next (eqb tag 9 && not (allZero body)) (refusal 9 next) whole refl (asked-place next (askedBy scratch tag (values tag body)))))
+      (pick-place next (eqb tag 9 && not (allZero body)) (refusal 9 next) whole refl (asked-place next (askedBy scratch (kindOf tag) (values tag body)))))
 
 module _ (log scratch : List ℕ) (s : Session) (within : s .place ≤ length log) where
   by-field : (o : Outcome) → fieldAt log (s .place) ≡ o → Moves log s (stepBy scratch s o .after) → Moves log s (stepOf log scratch s .after)

@@ -89,7 +89,7 @@ level-difference l a b z =
     sym (+ℤ-negℤ-cancel (l +ℤ pos a) (pos (suc b))) ∙ ap (λ (k : ℤ). k -ℤ pos (suc b)) s
 
 module _ {c : ℕ} {t : Table} {p : PlainList} (r : Rules c t) (fits : c ≤ nodeLimit) (o : OneTree t) (count : countOf p ≡ t .layer .count)
-    (s : Shows (plain t) (t .label) p) where
+    (s : Shows (plain t) (t .label) (t .face) p) where
   shape : Depth (parentOf p) (plainDepthOf t) (countOf p)
   shape = depth-agree (sym count) (s .parents) (plain-shape r fits)
 

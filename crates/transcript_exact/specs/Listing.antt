@@ -31,8 +31,8 @@ pub data Reads (log : List ℕ) : ℕ → List Item → Type 0 where
   at-end : {place : ℕ} → fieldAt log place ≡ end → Reads log place []
   cut-short : {place next : ℕ} → fieldAt log place ≡ refusedAt 8 next → Reads log place (odd 8 ∷ [])
   past-odd : {place n next : ℕ} {items : List Item} → fieldAt log place ≡ refusedAt n next → n ≢ 8 → Reads log next items → Reads log place (odd n ∷ items)
-  past-whole : {place tag next : ℕ} {v : List ℕ} {items : List Item} → fieldAt log place ≡ field tag v next → Reads log next items
-      → Reads log place (whole (askedBy scratch tag v) ∷ items)
+  past-whole : {place kind next : ℕ} {v : List ℕ} {items : List Item} → fieldAt log place ≡ field kind v next → Reads log next items
+      → Reads log place (whole (askedBy scratch kind v) ∷ items)
 
 -- the calls that fields ask for, in their order
 unfoldable pub callsIn : List Item → List Call

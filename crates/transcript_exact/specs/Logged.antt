@@ -10,7 +10,7 @@ use Rattle.sequence.specs.Calls.{Call, leaf, root, question, alike, toldAll}
 use Rattle.turn.specs.Asked.{Asked, call, nothing, askedBy}
 
 pub data Logged : Call → Type 0 where
-  a-leaf : {v l : ℕ} {s : List ℕ} → Logged (leaf v l s)
+  a-leaf : {v l a : ℕ} {s : List ℕ} → Logged (leaf v l a s)
   a-root : {named : Bool} {opening : ℕ} {s : List ℕ} → Logged (root named opening s)
   a-question : {x y : ℕ} → Logged (question x y)
   an-alike : {x y : ℕ} → Logged (alike x y)
@@ -37,10 +37,10 @@ fair-pick : (b : Bool) {u v : Asked} → Fair u → Fair v → Fair (pick b u v)
 fair-pick true x y = x
 fair-pick false x y = y
 
-pub asked-fair : (s : List ℕ) (tag : ℕ) (v : List ℕ) → Fair (askedBy s tag v)
-asked-fair s tag v =
-    fair-pick (eqb tag 1) (fair-call a-leaf)
-    (fair-pick (eqb tag 2) (fair-call a-root)
-    (fair-pick (eqb tag 3) (fair-call a-question)
-    (fair-pick (eqb tag 4) (fair-call an-alike)
+pub asked-fair : (s : List ℕ) (kind : ℕ) (v : List ℕ) → Fair (askedBy s kind v)
+asked-fair s kind v =
+    fair-pick (eqb kind 1) (fair-call a-leaf)
+    (fair-pick (eqb kind 2) (fair-call a-root)
+    (fair-pick (eqb kind 3) (fair-call a-question)
+    (fair-pick (eqb kind 4) (fair-call an-alike)
     fair-nothing)))

@@ -96,8 +96,8 @@ module _ (log : List ℕ) (s : Session) (rest : Reached) where
       cut : (n : ℕ) → n ≡ 8 → fieldAt log (s .place) ≡ refusedAt n next
           → (not (eqb n 8) ≡ false → rest ≡ stopped (stepBy scratch s (refusedAt n next) .after)) → Listed log s (before (stepBy scratch s (refusedAt n next) .text) rest)
       cut n z e off = let o = rw z at off in rw z (listed-cut (rw z at e) (o refl))
-  listed-field (field tag v next) e on off =
-      listed-asked (askedBy scratch tag v) (asked-fair scratch tag v) (λ items r. past-whole e r) (on-asked (askedBy scratch tag v) on)
+  listed-field (field kind v next) e on off =
+      listed-asked (askedBy scratch kind v) (asked-fair scratch kind v) (λ items r. past-whole e r) (on-asked (askedBy scratch kind v) on)
     where
       on-asked : (a : Asked) → (wholeField s next a .after .on ≡ true → Listed log (wholeField s next a .after) rest)
           → Listed log (wholeField s next a .after) rest

@@ -16,7 +16,7 @@ use Rattle.plain_list.specs.PlainList.{PlainList, countOf, withLeaf, withFirst,
 use Rattle.plain_list.specs.PlainListLaws.{node-count, root-count}
 use Rattle.plain_list.specs.PlainStep.{leaf as plainLeaf, root as plainRoot, question as plainQuestion, alike as plainAlike}
 use Rattle.plain_list.specs.PlainStep.{PlainReply, refusal as plainRefusal, node as plainNode, answered as plainAnswered, same as plainSame}
-use Rattle.plain_list.specs.PlainStep.{PlainOutcome, replies, refusalOf, unless, grows, isLabel, isOpening, hasRoom, bothKnown, rootIn, asked as askedOf, plainOutcome}
+use Rattle.plain_list.specs.PlainStep.{PlainOutcome, replies, refusalOf, unless, grows, isLabel, isFace, isOpening, hasRoom, bothKnown, rootIn, asked as askedOf, plainOutcome}
 use Rattle.plain_list.specs.StoredList.{StoredList}
 use Rattle.sequence.specs.Calls.{Call, leaf, root, question, alike, told, Reply, refusal, node}
 use Rattle.sequence.specs.Run.{Fast, tableIn, Turn, step, run, rowsIn, totalIn}
@@ -40,16 +40,17 @@ data GrowthOutcome (p : PlainList) : PlainOutcome → Type 0 where
   one-more : {p′ : PlainList} → countOf p′ ≡ suc (countOf p) → GrowthOutcome p (grows p p′)
 
 module _ (c : ℕ) (p : PlainList) where
-  leaf-outcome : (v l s : ℕ) → GrowthOutcome p (plainOutcome c p (plainLeaf v l s))
+  leaf-outcome : (v l f s : ℕ) → GrowthOutcome p (plainOutcome c p (plainLeaf v l f s))
   unfolding plainOutcome
-  leaf-outcome v l s = go (eqb s c) (ltb v (countOf p)) (isLabel l) (hasRoom c p)
+  leaf-outcome v l f s = go (eqb s c) (ltb v (countOf p)) (isLabel l) (isFace f) (hasRoom c p)
     where
-      go : (a b d e : Bool) → GrowthOutcome p (unless a 3 p (unless b 1 p (unless d 5 p (unless e 2 p (grows p (withLeaf p v l))))))
-      go false b d e = not-grown 3
-      go true false d e = not-grown 1
-      go true true false e = not-grown 5
-      go true true true false = not-grown 2
-      go true true true true = one-more (node-count p v l)
+      go : (a b d g e : Bool) → GrowthOutcome p (unless a 3 p (unless b 1 p (unless d 5 p (unless g 13 p (unless e 2 p (grows p (withLeaf p v l f)))))))
+      go false b d g e = not-grown 3
+      go true false d g e = not-grown 1
+      go true true false g e = not-grown 5
+      go true true true false e = not-grown 13
+      go true true true true false = not-grown 2
+      go true true true true true = one-more (node-count p v l f)
 
   root-outcome : (named : Bool) (opening s : ℕ) → GrowthOutcome p (plainOutcome c p (plainRoot named opening s))
   unfolding plainOutcome
@@ -60,7 +61,7 @@ module _ (c : ℕ) (p : PlainList) where
       go false b d e = not-grown 3
       go true false d e = not-grown 5
       go true true false e = not-grown 2
-      go true true true true = one-more (node-count p none 0)
+      go true true true true = one-more (node-count p none 0 0)
       go true true true false = one-more (root-count p (rootIn p 0) named opening)
 
 -- a reply that names no new node
@@ -143,7 +144,7 @@ module _ {f : Fast} {p : PlainList} {stored : StoredList} {total joined : ℕ} (
 
   told-step : {q : Call} → Logged q → Told f q (plainOutcome rows p (told q)) (step f q)
   unfolding step
-  told-step (a-leaf {v = v} {l = l} {s = k}) = told-growth a-leaf (leaf-outcome rows p v l (length k)) (step-exact s (leaf v l k))
+  told-step (a-leaf {v = v} {l = l} {a = a} {s = k}) = told-growth a-leaf (leaf-outcome rows p v l a (length k)) (step-exact s (leaf v l a k))
   told-step (a-root {named = b} {opening = l} {s = k}) = told-growth a-root (root-outcome rows p b l (length k)) (step-exact s (root b l k))
   told-step (a-question {x} {y}) = told-asked (question-plain rows p x y) refl (step-exact s (question x y))
   told-step (an-alike {x} {y}) = told-asked (alike-plain rows p x y) refl (step-exact s (alike x y))

@@ -23,13 +23,18 @@ pub record Answers (up labelOf : ℕ → ℕ) (x y : ℕ) (r : Answer) : Type 0 
   pub distanceY : Steps up (r .nca) (r .distanceY) y
   pub label : r .label ≡ labelOf (r .nca)
 
--- the list of labels of x, from the root's child down to x; the root's list is empty
-pub data Labels (up label : ℕ → ℕ) : ℕ → List ℕ → Type 0 where
-  root : {x : ℕ} → up x ≡ none → Labels up label x []
-  below : {x : ℕ} {l : List ℕ} → up x ≢ none → Labels up label (up x) l → Labels up label x (l ++ (label x ∷ []))
+-- the list of x, from the root's child down to x, of a column's numbers: of labels or of faces; the root's list is empty
+pub data Listed (up column : ℕ → ℕ) : ℕ → List ℕ → Type 0 where
+  root : {x : ℕ} → up x ≡ none → Listed up column x []
+  below : {x : ℕ} {l : List ℕ} → up x ≢ none → Listed up column (up x) l → Listed up column x (l ++ (column x ∷ []))
 
--- x and y have equal lists of labels (the paper's "alike")
-pub record SameLabels (up label : ℕ → ℕ) (x y : ℕ) : Type 0 where
+-- x and y have equal lists
+pub record SameList (up column : ℕ → ℕ) (x y : ℕ) : Type 0 where
   pub list : List ℕ
-  pub left : Labels up label x list
-  pub right : Labels up label y list
+  pub left : Listed up column x list
+  pub right : Listed up column y list
+
+-- x and y are alike: their lists of labels are equal, and their lists of faces (02: "Alike now needs equal panels and equal faces, … along the whole list")
+pub record Alike (up label face : ℕ → ℕ) (x y : ℕ) : Type 0 where
+  pub labels : SameList up label x y
+  pub faces : SameList up face x y

@@ -2,6 +2,7 @@
 use crate::random::below;
 use crate::random::next;
 use crate::shape::Kind;
+use crate::shape::face;
 use crate::shape::is_link;
 use crate::shape::kind_of;
 use crate::shape::label;
@@ -28,8 +29,8 @@ pub enum Call {
     Root { named: bool, opening: u16 },
     // A new root over x.
     Over { x: u16, named: bool, opening: u16 },
-    // A leaf of a label under x.
-    Leaf { x: u16, label: u16 },
+    // A leaf of a label and a face under x.
+    Leaf { x: u16, label: u16, face: u16 },
     // The tree of root x under v.
     Link { x: u16, v: u16, label: u16 },
 }
@@ -50,6 +51,7 @@ fn growth_of(tree: Tree, shape: u16, turn: u16, first: u64, second: u64, third: 
         Kind::Leaf => Call::Leaf {
             x: x,
             label: label(turn, third),
+            face: face(turn, next(third)),
         },
     }
 }
@@ -63,9 +65,9 @@ fn link_of(tree: Tree, turn: u16, first: u64, second: u64, third: u64) -> Call {
     }
 }
 
-// The seed after the three numbers that a turn draws.
+// The seed after the four numbers that a turn draws.
 pub fn seed_after(seed: u64) -> u64 {
-    next(next(next(seed)))
+    next(next(next(next(seed))))
 }
 
 // The call of a turn.
@@ -85,7 +87,7 @@ pub fn refusal_of(tree: Tree, call: Call) -> u16 {
         Call::First => full_refusal(tree),
         Call::Root { named, opening } => root_refusal(tree, named, opening),
         Call::Over { x, named, opening } => over_refusal(tree, x, named, opening),
-        Call::Leaf { x, label } => leaf_refusal(tree, x, label),
+        Call::Leaf { x, label, face } => leaf_refusal(tree, x, label, face),
         Call::Link { x, v, label } => link_refusal(tree, x, v, label),
     }
 }
@@ -96,7 +98,7 @@ pub fn after(tree: Tree, call: Call) -> Tree {
         Call::First => with_first(tree),
         Call::Root { named, opening } => with_root(tree, named, opening),
         Call::Over { x, named, opening } => with_over(tree, x, named, opening),
-        Call::Leaf { x, label } => with_leaf(tree, x, label),
+        Call::Leaf { x, label, face } => with_leaf(tree, x, label, face),
         Call::Link { x, v, label } => with_link(tree, x, v, label),
     }
 }
@@ -114,7 +116,11 @@ pub fn letter_of(call: Call) -> u8 {
             named: _,
             opening: _,
         } => b'O',
-        Call::Leaf { x: _, label: _ } => b'L',
+        Call::Leaf {
+            x: _,
+            label: _,
+            face: _,
+        } => b'L',
         Call::Link {
             x: _,
             v: _,
@@ -131,7 +137,11 @@ pub fn first_named(call: Call) -> u16 {
             named: _,
             opening: _,
         } => x,
-        Call::Leaf { x, label: _ } => x,
+        Call::Leaf {
+            x,
+            label: _,
+            face: _,
+        } => x,
         Call::Link { x, v: _, label: _ } => x,
         _ => 0,
     }
@@ -146,7 +156,11 @@ pub fn second_named(call: Call) -> u16 {
             named: _,
             opening,
         } => opening,
-        Call::Leaf { x: _, label } => label,
+        Call::Leaf {
+            x: _,
+            label,
+            face: _,
+        } => label,
         Call::Link { x: _, v, label: _ } => v,
         _ => 0,
     }

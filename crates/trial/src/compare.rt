@@ -9,7 +9,7 @@ use crate::naive::nca;
 use crate::naive::of;
 use crate::naive::root_of;
 use alike::Compared;
-use alike::same_labels;
+use alike::are_alike;
 use query::Answer;
 use query::Answered;
 use query::characteristic_ancestors;
@@ -85,9 +85,10 @@ fn agrees_on_query(
     }
 }
 
-fn agrees_on_labels(
+fn agrees_on_alike(
     parents: &[u16],
     labels: &[u16],
+    faces: &[u16],
     count: u16,
     x: u16,
     y: u16,
@@ -95,7 +96,7 @@ fn agrees_on_labels(
 ) -> bool {
     let expected = refusal(parents, count, x, y);
     match found {
-        Compared::Same(same) => expected == 0 && same == alike(parents, labels, x, y),
+        Compared::Same(same) => expected == 0 && same == alike(parents, labels, faces, x, y),
         Compared::Refused(r) => is_refusal(expected, number_of(r)),
     }
 }
@@ -108,6 +109,7 @@ fn ask_pair(
     ancestors: &[u16],
     parents: &[u16],
     labels: &[u16],
+    faces: &[u16],
     state: State,
     checks: Checks,
     x: u16,
@@ -121,10 +123,10 @@ fn ask_pair(
         x,
         y,
     );
-    let compared = same_labels(fields, numbers, levels, ancestors, state, x, y);
+    let compared = are_alike(fields, numbers, levels, ancestors, state, x, y);
     noted(
         asked,
-        agrees_on_labels(parents, labels, state.count, x, y, compared),
+        agrees_on_alike(parents, labels, faces, state.count, x, y, compared),
         b'A',
         x,
         y,
@@ -141,6 +143,7 @@ fn ask_row(
     ancestors: &[u16],
     parents: &[u16],
     labels: &[u16],
+    faces: &[u16],
     state: State,
     checks: Checks,
     x: u16,
@@ -155,6 +158,7 @@ fn ask_row(
             ancestors,
             parents,
             labels,
+            faces,
             state,
             t,
             x,
@@ -173,6 +177,7 @@ pub fn ask_all(
     ancestors: &[u16],
     parents: &[u16],
     labels: &[u16],
+    faces: &[u16],
     state: State,
     checks: Checks,
 ) -> Checks {
@@ -186,6 +191,7 @@ pub fn ask_all(
             ancestors,
             parents,
             labels,
+            faces,
             state,
             t,
             x,

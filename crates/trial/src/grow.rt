@@ -209,7 +209,7 @@ fn make(
             named,
             opening,
         )),
-        Call::Leaf { x, label } => of_growth(add_leaf(
+        Call::Leaf { x, label, face } => of_growth(add_leaf(
             fields,
             numbers,
             levels,
@@ -219,6 +219,7 @@ fn make(
             state,
             x,
             label,
+            face,
         )),
         Call::Link { x, v, label } => of_link(link(
             fields,

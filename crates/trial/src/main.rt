@@ -62,6 +62,7 @@ fn ask_arrays(
     ancestors: &[u16],
     parents: [u16; 128],
     labels: [u16; 128],
+    faces: [u16; 128],
     state: State,
     checks: Checks,
 ) -> Checks {
@@ -72,6 +73,7 @@ fn ask_arrays(
         ancestors,
         &parents,
         &labels,
+        &faces,
         state,
         checks,
     )
@@ -82,6 +84,7 @@ fn asked(fields: &[u16], numbers: &[u64], levels: &[i32], ancestors: &[u16], run
     let t = run.tree;
     let parents = t.parents;
     let labels = t.labels;
+    let faces = t.faces;
     let state = run.state;
     let checks = run.checks;
     let mut r = run;
@@ -92,6 +95,7 @@ fn asked(fields: &[u16], numbers: &[u64], levels: &[i32], ancestors: &[u16], run
         ancestors,
         parents,
         labels,
+        faces,
         state,
         checks,
     );

@@ -96,13 +96,13 @@ pub fn branch(parents: &[u16], x: u16, a: u16) -> u16 {
     climb(parents, x, minus(steps, 1))
 }
 
-// Whether so many labels of x and its ancestors are those of y and its ancestors.
-fn equal_labels(parents: &[u16], labels: &[u16], x: u16, y: u16, steps: u16) -> bool {
+// Whether so much of a column, for x and its ancestors, is what stands there for y and its ancestors.
+fn equal_along(parents: &[u16], column: &[u16], x: u16, y: u16, steps: u16) -> bool {
     let mut a = x;
     let mut b = y;
     let mut k: u16 = 0;
     while k < steps {
-        if of(labels, a) != of(labels, b) {
+        if of(column, a) != of(column, b) {
             return false;
         }
         a = of(parents, a);
@@ -112,12 +112,15 @@ fn equal_labels(parents: &[u16], labels: &[u16], x: u16, y: u16, steps: u16) -> 
     true
 }
 
-// Whether the labels from the root's child down to x are those down to y.
-pub fn alike(parents: &[u16], labels: &[u16], x: u16, y: u16) -> bool {
+// Whether the labels and the faces from the root's child down to x are those down to y.
+pub fn alike(parents: &[u16], labels: &[u16], faces: &[u16], x: u16, y: u16) -> bool {
     let dx = depth(parents, x);
     let dy = depth(parents, y);
     if dx != dy {
         return false;
     }
-    equal_labels(parents, labels, x, y, dx)
+    if !equal_along(parents, labels, x, y, dx) {
+        return false;
+    }
+    equal_along(parents, faces, x, y, dx)
 }

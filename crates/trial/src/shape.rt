@@ -1,4 +1,4 @@
-// The calls that a shape makes: of which kind, and with which nodes and labels.
+// The calls that a shape makes: of which kind, and with which nodes, labels and faces.
 use crate::naive::minus;
 use crate::random::below;
 
@@ -45,6 +45,18 @@ pub fn label(turn: u16, seed: u64) -> u16 {
         5 => 10000,
         6 => 0,
         _ => one_or_two(seed),
+    }
+}
+
+// The face of the leaf of this turn: odd beside a label that is none, and now and then.
+pub fn face(turn: u16, seed: u64) -> u16 {
+    if turn == 5 {
+        return 2;
+    }
+    match below(seed, 16) {
+        0 => 2,
+        1 => 65535,
+        _ => below(seed, 2),
     }
 }
 

@@ -1,4 +1,4 @@
-// The plain list of 01 and 02 on arrays, for 128 nodes: parents and labels, and the count; a root has no parent. It shares nothing with the engine.
+// The plain list of 01 and 02 on arrays, for 128 nodes: parents, labels and faces, and the count; a root has no parent. It shares nothing with the engine.
 use crate::naive::members;
 use crate::naive::of;
 use crate::naive::root_of;
@@ -7,9 +7,14 @@ pub const NONE: u16 = 65535;
 
 pub const CAPACITY: u16 = 128;
 
+const FRONT: u16 = 0;
+
+const BACK: u16 = 1;
+
 pub struct Tree {
     pub parents: [u16; 128],
     pub labels: [u16; 128],
+    pub faces: [u16; 128],
     pub count: u16,
 }
 
@@ -17,6 +22,7 @@ pub fn empty() -> Tree {
     Tree {
         parents: [NONE; 128],
         labels: [0; 128],
+        faces: [0; 128],
         count: 0,
     }
 }
@@ -39,6 +45,20 @@ fn with_label(t: Tree, x: u16, label: u16) -> Tree {
     next
 }
 
+fn with_face(t: Tree, x: u16, face: u16) -> Tree {
+    let i = x as usize;
+    let mut next = t;
+    if i < 128 {
+        next.faces[i] = face;
+    }
+    next
+}
+
+// A label, and with it a face.
+fn with_marks(t: Tree, x: u16, label: u16, face: u16) -> Tree {
+    with_face(with_label(t, x, label), x, face)
+}
+
 fn with_count(t: Tree) -> Tree {
     let mut next = t;
     if t.count < CAPACITY {
@@ -55,17 +75,17 @@ fn is_label(label: u16) -> bool {
 }
 
 // The refusal of a leaf, or 0.
-pub fn leaf_refusal(t: Tree, parent: u16, label: u16) -> u16 {
+pub fn leaf_refusal(t: Tree, parent: u16, label: u16, face: u16) -> u16 {
     if t.count <= parent {
         return 1;
     }
     if !is_label(label) {
         return 5;
     }
-    if t.count == CAPACITY {
-        return 2;
+    if BACK < face {
+        return 13;
     }
-    0
+    full_refusal(t)
 }
 
 // The refusal of a node that names no other, or 0.
@@ -140,19 +160,19 @@ pub fn with_first(t: Tree) -> Tree {
 }
 
 // A leaf that is not refused.
-pub fn with_leaf(t: Tree, parent: u16, label: u16) -> Tree {
+pub fn with_leaf(t: Tree, parent: u16, label: u16, face: u16) -> Tree {
     let node = t.count;
     let a = with_parent(t, node, parent);
-    let b = with_label(a, node, label);
+    let b = with_marks(a, node, label, face);
     with_count(b)
 }
 
-// A new root over x that is not refused: the parent of x, which takes the opening, where one is named.
+// A new root over x that is not refused: the parent of x, which takes the opening, where one is named, and faces front.
 pub fn with_over(t: Tree, x: u16, named: bool, opening: u16) -> Tree {
     let node = t.count;
     let a = with_count(with_parent(t, x, node));
     if named {
-        return with_label(a, x, opening);
+        return with_marks(a, x, opening, FRONT);
     }
     a
 }
@@ -171,8 +191,8 @@ pub fn members_in(t: Tree, root: u16) -> u64 {
     members(&parents, t.count, root)
 }
 
-// A link that is not refused.
+// A link that is not refused: x faces front.
 pub fn with_link(t: Tree, x: u16, v: u16, label: u16) -> Tree {
     let a = with_parent(t, x, v);
-    with_label(a, x, label)
+    with_marks(a, x, label, FRONT)
 }

@@ -11,11 +11,11 @@ pub data Asked : Type 0 where
   call : Call → Asked
   nothing : Asked
 
--- by the field's tag and values
+-- by the field's kind and values
 abbrev pub askedBy : List ℕ → ℕ → List ℕ → Asked
-askedBy scratch tag v =
-    pick (eqb tag 1) (call (leaf (getD v 0 0) (getD v 1 0) scratch))
-    (pick (eqb tag 2) (call (root (eqb (getD v 0 0) 1) (getD v 1 0) scratch))
-    (pick (eqb tag 3) (call (question (getD v 0 0) (getD v 1 0)))
-    (pick (eqb tag 4) (call (alike (getD v 0 0) (getD v 1 0)))
+askedBy scratch kind v =
+    pick (eqb kind 1) (call (leaf (getD v 0 0) (getD v 1 0) (getD v 2 0) scratch))
+    (pick (eqb kind 2) (call (root (eqb (getD v 0 0) 1) (getD v 1 0) scratch))
+    (pick (eqb kind 3) (call (question (getD v 0 0) (getD v 1 0)))
+    (pick (eqb kind 4) (call (alike (getD v 0 0) (getD v 1 0)))
     nothing)))

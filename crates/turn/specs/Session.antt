@@ -63,7 +63,7 @@ wholeField s next nothing = filled s next
 abbrev pub stepBy : List ℕ → Session → Outcome → Step
 stepBy scratch s end = ended s
 stepBy scratch s (refusal n next) = refusedField s n next
-stepBy scratch s (field tag v next) = wholeField s next (askedBy scratch tag v)
+stepBy scratch s (field kind v next) = wholeField s next (askedBy scratch kind v)
 
 -- the next field of a log
 unfoldable pub stepOf : List ℕ → List ℕ → Session → Step

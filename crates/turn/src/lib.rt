@@ -123,6 +123,7 @@ pub fn take_turn(
         Field::Leaf {
             parent,
             label,
+            face,
             next,
         } => {
             let served = serve_leaf(
@@ -135,6 +136,7 @@ pub fn take_turn(
                 state,
                 parent,
                 label,
+                face,
             );
             served_turn(reading, served, next)
         }

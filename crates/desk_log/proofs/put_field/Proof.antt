@@ -16,12 +16,15 @@ slice-write-out-2 c = search needs
 slice-write-out-3 : tie.Need-slice-write-out-3
 slice-write-out-3 c = search needs
 
+slice-write-out-4 : tie.Need-slice-write-out-4
+slice-write-out-4 c = search needs
+
 same-length : tie.Need-same-length
 same-length c = search needs
 
 returns : tie.Need-returns
-returns c = ap (reply 0) (sets-all (c .args .out .now) (c .args .tag ∷ c .args .first ∷ c .args .second ∷ []) (c .pre))
+returns c = ap (reply 0) (sets-all (c .args .out .now) (c .args .kind ∷ c .args .first ∷ c .args .second ∷ c .args .third ∷ []) (c .pre))
 
 pub put-field-spec : {M : Type 1} → statement M
 put-field-spec =
-    tie.close (tie.spec slice-write-out slice-write-out-2 slice-write-out-3 same-length returns)
+    tie.close (tie.spec slice-write-out slice-write-out-2 slice-write-out-3 slice-write-out-4 same-length returns)

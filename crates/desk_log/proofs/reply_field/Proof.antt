@@ -1,4 +1,4 @@
--- `reply_field`: a tag and two values, or a refusal's number.
+-- `reply_field`: a kind and three values, or a refusal's number.
 use mathlib.Core.Path.{refl}
 use borrow.Author.Needs.{needs}
 use Rattle.desk_log.proofs.reply_field.Statement.{statement}

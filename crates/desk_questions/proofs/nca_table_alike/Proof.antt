@@ -12,8 +12,8 @@ number-of-requires c κs = search needs
 returns : tie.Need-returns
 returns c = let a = c .before .before .before .before .before .before .args in alike-misfit (partsOf (a .fields .now) (a .numbers .now) (a .levels .now) (a .ancestors .now)) (stateOf (a .count)) (a .out .now) (a .x) (a .y) (c .number-of .ensures) (c .before .if1 .taken)
 
-same-labels-requires : tie.Need-same-labels-requires
-same-labels-requires c κs = search needs
+are-alike-requires : tie.Need-are-alike-requires
+are-alike-requires c κs = search needs
 
 reply-compared-requires : tie.Need-reply-compared-requires
 reply-compared-requires c κs = search needs
@@ -22,7 +22,7 @@ same-length : tie.Need-same-length
 same-length c = search needs
 
 returns-2 : tie.Need-returns-2
-returns-2 c = let a = c .before .before .before .before .before .before .before .before .before .before .args in alike-served (partsOf (a .fields .now) (a .numbers .now) (a .levels .now) (a .ancestors .now)) (stateOf (a .count)) (a .out .now) (a .x) (a .y) _ _ (c .before .before .before .before .before .if1 .left) (c .before .before .before .before .same-labels .ensures) (c .before .before .reply-compared .ensures)
+returns-2 c = let a = c .before .before .before .before .before .before .before .before .before .before .args in alike-served (partsOf (a .fields .now) (a .numbers .now) (a .levels .now) (a .ancestors .now)) (stateOf (a .count)) (a .out .now) (a .x) (a .y) _ _ (c .before .before .before .before .before .if1 .left) (c .before .before .before .before .are-alike .ensures) (c .before .before .reply-compared .ensures)
 
 pub nca-table-alike-spec : {M : Type 1} → statement M
 nca-table-alike-spec =
@@ -30,7 +30,7 @@ nca-table-alike-spec =
     (tie.spec
     number-of-requires
     returns
-    same-labels-requires
+    are-alike-requires
     reply-compared-requires
     same-length
     returns-2)

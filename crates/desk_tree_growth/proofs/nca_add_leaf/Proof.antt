@@ -9,13 +9,13 @@ number-of-requires : tie.Need-number-of-requires
 number-of-requires c κs = search needs
 
 returns : tie.Need-returns
-returns c = (leaf-tree-misfit (c .before .before .before .before .args .tree .now) (c .before .before .before .before .args .out .now) (c .before .before .before .before .args .parent) (c .before .before .before .before .args .label) (c .number-of .ensures) (c .before .if1 .taken), λ z. misfit-held (c .number-of .ensures) z)
+returns c = (leaf-tree-misfit (c .before .before .before .before .args .tree .now) (c .before .before .before .before .args .out .now) (c .before .before .before .before .args .parent) (c .before .before .before .before .args .label) (c .before .before .before .before .args .face) (c .number-of .ensures) (c .before .if1 .taken), λ z. misfit-held (c .number-of .ensures) z)
 
 number-of-requires-2 : tie.Need-number-of-requires-2
 number-of-requires-2 c κs = search needs
 
 returns-2 : tie.Need-returns-2
-returns-2 c = (leaf-out-misfit (c .before .before .before .before .before .args .tree .now) (c .before .before .before .before .before .args .out .now) (c .before .before .before .before .before .args .parent) (c .before .before .before .before .before .args .label) (c .number-of2 .ensures) (c .before .before .if1 .left) (c .before .if2 .taken), λ z. misfit-held (c .number-of2 .ensures) z)
+returns-2 c = (leaf-out-misfit (c .before .before .before .before .before .args .tree .now) (c .before .before .before .before .before .args .out .now) (c .before .before .before .before .before .args .parent) (c .before .before .before .before .before .args .label) (c .before .before .before .before .before .args .face) (c .number-of2 .ensures) (c .before .before .if1 .left) (c .before .if2 .taken), λ z. misfit-held (c .number-of2 .ensures) z)
 
 slice-aggregate-read-parts : tie.Need-slice-aggregate-read-parts
 slice-aggregate-read-parts c = search needs
@@ -92,8 +92,8 @@ same-length-2 c = search needs
 returns-3 : tie.Need-returns-3
 returns-3 c =
     let a = c .before .before .before .before .before .before .before .before .before .before .before .before .before .before .before .before .before .before .before .before .before .before .before .before .before .before .before .before .before .before .before .before .before .before .before .before .before .before .before .before .before .before .before .before .before .args in (
-      leaf-kept (a .tree .now) (a .out .now) _ _ _ _ _ _ _ _ (c .before .before .before .before .before .before .before .before .before .before .before .before .before .before .before .before .before .before .before .before .before .before .before .before .before .before .before .before .before .before .before .before .before .before .before .before .before .before .before .before .before .before .if1 .left) (c .before .before .before .before .before .before .before .before .before .before .before .before .before .before .before .before .before .before .before .before .before .before .before .before .before .before .before .before .before .before .before .before .before .before .before .before .before .before .before .before .before .if2 .left) (c .before .before .before .before .before .before .before .before .before .before .before .before .before .before .before .before .before .before .before .before .before .before .before .before .before .before .before .before .before .before .before .before .before .before .before .read-parts .ensures) (c .before .before .before .before .before .before .before .before .before .before .before .before .before .before .before .before .before .before .before .before .before .before .before .before .before .before .before .before .read-tally .ensures) (c .before .before .before .before .before .before .before .before .before .before .before .before .before .before .before .before .before .before .before .before .before .before .before .before .before .read-state .ensures) (c .before .before .before .before .before .before .keep-grown .ensures .0) (c .before .before .reply-grown .ensures) (a .parent) (a .label) (c .before .before .before .before .before .before .before .before .before .before .before .before .before .before .before .before .before .before .add-leaf .ensures),
-      λ _. leaf-held (a .tree .now) _ _ _ _ _ _ _ (c .before .before .before .before .before .before .before .before .before .before .before .before .before .before .before .before .before .before .before .before .before .before .before .before .before .before .before .before .before .before .before .before .before .before .before .read-parts .ensures) (c .before .before .before .before .before .before .before .before .before .before .before .before .before .before .before .before .before .before .before .before .before .before .before .before .before .before .before .before .read-tally .ensures) (c .before .before .before .before .before .before .before .before .before .before .before .before .before .before .before .before .before .before .before .before .before .before .before .before .before .read-state .ensures) (c .before .before .before .before .before .before .keep-grown .ensures .1) (a .parent) (a .label) (c .before .before .before .before .before .before .before .before .before .before .before .before .before .before .before .before .before .before .add-leaf .ensures),
+      leaf-kept (a .tree .now) (a .out .now) _ _ _ _ _ _ _ _ (c .before .before .before .before .before .before .before .before .before .before .before .before .before .before .before .before .before .before .before .before .before .before .before .before .before .before .before .before .before .before .before .before .before .before .before .before .before .before .before .before .before .before .if1 .left) (c .before .before .before .before .before .before .before .before .before .before .before .before .before .before .before .before .before .before .before .before .before .before .before .before .before .before .before .before .before .before .before .before .before .before .before .before .before .before .before .before .before .if2 .left) (c .before .before .before .before .before .before .before .before .before .before .before .before .before .before .before .before .before .before .before .before .before .before .before .before .before .before .before .before .before .before .before .before .before .before .before .read-parts .ensures) (c .before .before .before .before .before .before .before .before .before .before .before .before .before .before .before .before .before .before .before .before .before .before .before .before .before .before .before .before .read-tally .ensures) (c .before .before .before .before .before .before .before .before .before .before .before .before .before .before .before .before .before .before .before .before .before .before .before .before .before .read-state .ensures) (c .before .before .before .before .before .before .keep-grown .ensures .0) (c .before .before .reply-grown .ensures) (a .parent) (a .label) (a .face) (c .before .before .before .before .before .before .before .before .before .before .before .before .before .before .before .before .before .before .add-leaf .ensures),
+      λ _. leaf-held (a .tree .now) _ _ _ _ _ _ _ (c .before .before .before .before .before .before .before .before .before .before .before .before .before .before .before .before .before .before .before .before .before .before .before .before .before .before .before .before .before .before .before .before .before .before .before .read-parts .ensures) (c .before .before .before .before .before .before .before .before .before .before .before .before .before .before .before .before .before .before .before .before .before .before .before .before .before .before .before .before .read-tally .ensures) (c .before .before .before .before .before .before .before .before .before .before .before .before .before .before .before .before .before .before .before .before .before .before .before .before .before .read-state .ensures) (c .before .before .before .before .before .before .keep-grown .ensures .1) (a .parent) (a .label) (a .face) (c .before .before .before .before .before .before .before .before .before .before .before .before .before .before .before .before .before .before .add-leaf .ensures),
     )
 
 pub nca-add-leaf-spec : {M : Type 1} → statement M

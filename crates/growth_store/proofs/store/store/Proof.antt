@@ -31,10 +31,10 @@ same-length-4 c = search needs
 
 returns : tie.Need-returns
 returns c =
-    let a = c .before .before .before .before .before .before .before .before .before .before .before .before .before .before .before .before .before .before .before .before .before .before .before .args in
-    let back : toZ w32 (ofZ w32 (a .g .level)) ≡ a .g .level = search needs in
+    let a = c .before .before .before .before .before .before .before .before .before .before .before .before .before .before .before .before .before .before .before .before .before .before .before .before .args in
+    let back : toZ w32 (ofZ w32 (a .g .marks .level)) ≡ a .g .marks .level = search needs in
     store-parts (partsOf (a .fields .now) (a .numbers .now) (a .levels .now) (a .ancestors .now)) (a .count) (a .g) _ _ _ _ _ _
-    (c .before .before .before .before .before .before .before .before .before .before .before .before .before .before .store .ensures)
+    (c .before .before .before .before .before .before .before .before .before .before .before .before .before .before .before .store .ensures)
     (c .before .before .before .before .before .before .mark .ensures)
     (rw back at (c .before .put-level .ensures))
 

@@ -4,14 +4,14 @@ use borrow.Author.Needs.{needs}
 use Rattle.report.proofs.serve.serve_alike.Statement.{statement}
 use Rattle.report.proofs.serve.serve_alike.Tie as tie
 
-same-labels-requires : tie.Need-same-labels-requires
-same-labels-requires c κs = search needs
+are-alike-requires : tie.Need-are-alike-requires
+are-alike-requires c κs = search needs
 
 compared-requires : tie.Need-compared-requires
 compared-requires c κs = search needs
 
 returns : tie.Need-returns
-returns c w = let a = c .before .before .before .before .before .args in alike-report _ w (a .state) (a .x) (a .y) (c .compared .result) _ (c .before .same-labels .ensures) (c .compared .ensures)
+returns c w = let a = c .before .before .before .before .before .args in alike-report _ w (a .state) (a .x) (a .y) (c .compared .result) _ (c .before .are-alike .ensures) (c .compared .ensures)
 
 pub serve-alike-spec : {M : Type 1} → statement M
-serve-alike-spec = tie.close (tie.spec same-labels-requires compared-requires returns)
+serve-alike-spec = tie.close (tie.spec are-alike-requires compared-requires returns)

@@ -28,7 +28,7 @@ same-length-5 c = search needs
 
 returns : tie.Need-returns
 returns c = let a = c .before .before .before .before .before .before .before .before .before .before .before .before .before .before .before .before .before .before .before .before .before .before .args in let o = c .after-growth .ensures in
-    leaf-report (partsOf (a .fields .now) (a .numbers .now) (a .levels .now) (a .ancestors .now)) _ (a .tally .now) _ (a .state) _ (c .after-growth .result) (a .parent) (a .label) (a .scratch .now)
+    leaf-report (partsOf (a .fields .now) (a .numbers .now) (a .levels .now) (a .ancestors .now)) _ (a .tally .now) _ (a .state) _ (c .after-growth .result) (a .parent) (a .label) (a .face) (a .scratch .now)
     (c .before .before .before .before .before .before .before .before .before .before .before .add-leaf .ensures) (record { shown = o .0; rows = o .1 .0; state = o .1 .1 })
 
 pub serve-leaf-spec : {M : Type 1} → statement M

@@ -6,10 +6,10 @@ use Rattle.trial.proofs.compare.ask_all.Statement.{statement}
 use Rattle.trial.proofs.compare.ask_all.Tie as tie
 
 abbrev Inv-loop : tie.InvT-loop
-Inv-loop fields numbers levels ancestors parents labels state t₀ x₀ t x = Unit {0}
+Inv-loop fields numbers levels ancestors parents labels faces state t₀ x₀ t x = Unit {0}
 
 abbrev μ-loop : tie.MeasureT-loop
-μ-loop fields numbers levels ancestors parents labels state t₀ x₀ t x = 129 - x
+μ-loop fields numbers levels ancestors parents labels faces state t₀ x₀ t x = 129 - x
 
 loop-holds : tie.Need-loop-holds Inv-loop μ-loop
 loop-holds c = tt

@@ -6,10 +6,10 @@ use Rattle.trial.proofs.compare.ask_row.Statement.{statement}
 use Rattle.trial.proofs.compare.ask_row.Tie as tie
 
 abbrev Inv-loop : tie.InvT-loop
-Inv-loop fields numbers levels ancestors parents labels state x t₀ y₀ t y = Unit {0}
+Inv-loop fields numbers levels ancestors parents labels faces state x t₀ y₀ t y = Unit {0}
 
 abbrev μ-loop : tie.MeasureT-loop
-μ-loop fields numbers levels ancestors parents labels state x t₀ y₀ t y = 129 - y
+μ-loop fields numbers levels ancestors parents labels faces state x t₀ y₀ t y = 129 - y
 
 loop-holds : tie.Need-loop-holds Inv-loop μ-loop
 loop-holds c = tt
