@@ -39,7 +39,7 @@ pub data Gives (t : Table) : Growth → (a o v : ℕ) → Type 0 where
   to-new : {r opening o : ℕ} → Gives t (root r false opening) 0 o 0
   to-old : {r opening o : ℕ} → r < t .layer .count → Gives t (root r true opening) 0 o o
 
--- What the calls ask of a label and of an opening
+-- What the calls ask of a label, an opening and a face
 
 pub says-label : (l : ℕ) → Says ((1 ≤ l) × (l ≤ labelLimit)) (isLabel l)
 says-label l = says-and (says-leb 1 l) (λ _. says-leb l labelLimit)

@@ -1,5 +1,5 @@
 -- The plain list (01, "Demand 3 and the plain list"; 02, "Coupled rooms"): each node's parent, label and face. A tree's root is its node without a parent.
-use mathlib.Core.Bool.{Bool}
+use mathlib.Core.Bool.{Bool, true}
 use mathlib.Core.List.{List, [], _∷_, _++_}
 use Prim.Native.Nat.{ℕ}
 use lib.ListN.{length, getD, set}
@@ -57,6 +57,6 @@ under p x v named opening = record {
 abbrev pub withRoot : PlainList → ℕ → Bool → ℕ → PlainList
 withRoot p r named opening = withNode (under p r (countOf p) named opening) none 0 0
 
--- the tree of root x under node v, x with the label of the door (the paper's word for what a linked tree is seen through), and front
+-- the tree of root x under node v, seen through a door (the paper's word) as an old root is through an opening: x has its label and is front
 unfoldable pub withLink : PlainList → ℕ → ℕ → ℕ → PlainList
-withLink p x v door = record { parents = set (p .parents) x v; labels = set (p .labels) x door; faces = set (p .faces) x 0 }
+withLink p x v door = under p x v true door

@@ -71,7 +71,7 @@ module _ (p : PlainList) (x v door : ℕ) where
 
   pub link-labels : length (withLink p x v door .labels) ≡ length (p .labels)
   unfolding withLink
-  link-labels = length-set (p .labels) x door
+  link-labels = length-set (p .labels) x _
 
   pub link-faces : length (withLink p x v door .faces) ≡ length (p .faces)
   unfolding withLink
