@@ -12,7 +12,8 @@ public:
     static constexpr double bytes_per_row = 288;
 
     explicit Engine(uint32_t capacity)
-        : fields(12 * capacity), numbers(2 * capacity), levels(capacity), ancestors(122 * capacity), tally(NCA_TALLY_LEN), scratch(capacity) {
+        : fields(12 * capacity), numbers(2 * capacity), levels(capacity), ancestors(122 * capacity), tally(NCA_TALLY_LEN), scratch(capacity),
+          growth_scratch(NCA_GROWTH_SCRATCH_LEN) {
         served(nca_table_set_up(fields.data(), fields.size(), numbers.data(), numbers.size(), levels.data(), levels.size(), ancestors.data(),
                                 ancestors.size(), tally.data(), tally.size(), &count, 1));
     }
@@ -20,7 +21,7 @@ public:
     uint16_t add_first() {
         uint16_t out[4];
         served(nca_table_add_first(fields.data(), fields.size(), numbers.data(), numbers.size(), levels.data(), levels.size(), ancestors.data(),
-                                   ancestors.size(), tally.data(), tally.size(), scratch.data(), scratch.size(), count, out, 4));
+                                   ancestors.size(), tally.data(), tally.size(), growth_scratch.data(), growth_scratch.size(), count, out, 4));
         return grown(out);
     }
 
@@ -28,7 +29,8 @@ public:
     uint16_t add_leaf(uint16_t parent, uint16_t label) {
         uint16_t out[4];
         served(nca_table_add_leaf(fields.data(), fields.size(), numbers.data(), numbers.size(), levels.data(), levels.size(), ancestors.data(),
-                                  ancestors.size(), tally.data(), tally.size(), scratch.data(), scratch.size(), count, parent, label, 0, out, 4));
+                                  ancestors.size(), tally.data(), tally.size(), growth_scratch.data(), growth_scratch.size(), count,
+                                  parent, label, 0, out, 4));
         return grown(out);
     }
 
@@ -40,7 +42,8 @@ public:
         }
         uint16_t out[4];
         served(nca_table_add_root(fields.data(), fields.size(), numbers.data(), numbers.size(), levels.data(), levels.size(), ancestors.data(),
-                                  ancestors.size(), tally.data(), tally.size(), scratch.data(), scratch.size(), count, root, 0, 0, out, 4));
+                                  ancestors.size(), tally.data(), tally.size(), growth_scratch.data(), growth_scratch.size(), count,
+                                  root, 0, 0, out, 4));
         root = out[1];
         return grown(out);
     }
@@ -97,6 +100,7 @@ private:
     std::vector<uint16_t> fields;
     std::vector<uint64_t> numbers;
     std::vector<int32_t> levels;
-    std::vector<uint16_t> ancestors, tally, scratch;
+    std::vector<uint16_t> ancestors, tally;
+    std::vector<uint16_t> scratch, growth_scratch; // of links and inspections, and of growths
     uint16_t count = 0, root = NONE;
 };

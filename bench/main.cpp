@@ -220,7 +220,7 @@ int main(int argc, char **argv) {
             for (uint32_t roots : {0u, 5u}) measure(shape, n, roots);
     std::printf("\n| tree linked | nodes | a joined node, ns | to leaves | to C++ leaves | to C++ leaves, tuned | rows a node |\n|---|---|---|---|---|---|---|\n");
     for (auto &shape : shapes) measure_link(shape, 16384);
-    std::printf("\nBytes a row: engine %.0f (and 2 of scratch), C++ %.0f, parent walk %.0f, jump pointers %.0f; beside the rows 20,002 for a tally, in the engine and in C++.\n", Engine::bytes_per_row, Plain::bytes_per_row,
+    std::printf("\nBytes a row: engine %.0f (and 2 of scratch for links and inspection; growth has 64 bytes at any capacity), C++ %.0f, parent walk %.0f, jump pointers %.0f; beside the rows 20,002 for a tally, in the engine and in C++.\n", Engine::bytes_per_row, Plain::bytes_per_row,
                 ParentWalk::bytes_per_row, JumpPointers::bytes_per_row);
     measure_fillers();
     if (argc > 1) depths(argv[1]);

@@ -81,10 +81,16 @@ static struct table {
     uint16_t count, root; /* the root is that of the log's tree: the last node that a new root gave */
 } table;
 
+/* Growth has one of its own, which is as short at any capacity; links and inspection need as much as there are rows. */
+static uint16_t growth_scratch[NCA_GROWTH_SCRATCH_LEN];
 static uint16_t scratch[CAPACITY];
 
-#define PARTS table.fields, 12 * CAPACITY, table.numbers, 2 * CAPACITY, table.levels, CAPACITY, table.ancestors, 122 * CAPACITY
+/* The parts of a table of capacity c, which is not above 128. */
+#define PARTS_AT(c) table.fields, 12 * (c), table.numbers, 2 * (c), table.levels, (c), table.ancestors, 122 * (c)
+#define PARTS PARTS_AT(CAPACITY)
 #define COUNTS table.tally, NCA_TALLY_LEN
+#define GROWTH_SCRATCH growth_scratch, NCA_GROWTH_SCRATCH_LEN
+#define SCRATCH scratch, CAPACITY
 
 static unsigned table_set_up(void) {
     uint16_t out[1];
@@ -108,19 +114,19 @@ static unsigned table_grown(unsigned refusal, const uint16_t out[4], struct grow
 
 static unsigned table_add_first(struct growth *g) {
     uint16_t out[4];
-    return table_grown(nca_table_add_first(PARTS, COUNTS, scratch, CAPACITY, table.count, out, 4), out, g);
+    return table_grown(nca_table_add_first(PARTS, COUNTS, GROWTH_SCRATCH, table.count, out, 4), out, g);
 }
 
 static unsigned table_add_leaf(unsigned parent, unsigned label, unsigned face, struct growth *g) {
     uint16_t out[4];
     return table_grown(
-        nca_table_add_leaf(PARTS, COUNTS, scratch, CAPACITY, table.count, (uint16_t)parent, (uint16_t)label, (uint16_t)face, out, 4), out, g);
+        nca_table_add_leaf(PARTS, COUNTS, GROWTH_SCRATCH, table.count, (uint16_t)parent, (uint16_t)label, (uint16_t)face, out, 4), out, g);
 }
 
 static unsigned table_add_root_over(unsigned x, unsigned named, unsigned opening, struct growth *g) {
     uint16_t out[4];
     return table_grown(
-        nca_table_add_root(PARTS, COUNTS, scratch, CAPACITY, table.count, (uint16_t)x, (uint16_t)named, (uint16_t)opening, out, 4), out, g);
+        nca_table_add_root(PARTS, COUNTS, GROWTH_SCRATCH, table.count, (uint16_t)x, (uint16_t)named, (uint16_t)opening, out, 4), out, g);
 }
 
 /* The first node of a log: an opening is checked, though it has no use. */
@@ -137,7 +143,7 @@ static unsigned table_add_root(unsigned named, unsigned opening, struct growth *
 }
 
 static unsigned table_link(unsigned x, unsigned v, unsigned label, uint32_t out[2]) {
-    return nca_table_link(PARTS, COUNTS, scratch, CAPACITY, table.count, (uint16_t)x, (uint16_t)v, (uint16_t)label, out, 2);
+    return nca_table_link(PARTS, COUNTS, SCRATCH, table.count, (uint16_t)x, (uint16_t)v, (uint16_t)label, out, 2);
 }
 
 static unsigned table_query(unsigned x, unsigned y, struct answer *a) {
@@ -353,22 +359,22 @@ static unsigned tree_count(void) { return little_endian(tree); }
 static void table_calls(void) {
     uint16_t out[4] = {9, 9, 9, 9}, yes = 9;
     struct table before = table;
-    expect(nca_table_add_root(PARTS, COUNTS, scratch, CAPACITY, table.count, table.root, 0, 0, out, 3) == NCA_MISFIT, "a short out slice is a misfit");
-    expect(nca_table_add_root(PARTS, COUNTS, scratch, CAPACITY - 1, table.count, table.root, 1, 7, out, 4) == NCA_MISFIT, "a short scratch is a misfit");
-    expect(nca_table_add_root(PARTS, table.tally, NCA_TALLY_LEN - 1, scratch, CAPACITY, table.count, table.root, 1, 0, out, 4) == NCA_MISFIT, "a short tally is a misfit");
-    expect(nca_table_add_root(PARTS, COUNTS, scratch, CAPACITY, table.count, table.root, 1, 0, out, 4) == NCA_BAD_LABEL, "an opening of 0 is refused");
-    expect(nca_table_add_root(PARTS, COUNTS, scratch, CAPACITY, table.count, table.root, 2, 10000, out, 4) == NCA_BAD_LABEL, "so is one of 10,000");
+    expect(nca_table_add_root(PARTS, COUNTS, GROWTH_SCRATCH, table.count, table.root, 0, 0, out, 3) == NCA_MISFIT, "a short out slice is a misfit");
+    expect(nca_table_add_root(PARTS, COUNTS, growth_scratch, NCA_GROWTH_SCRATCH_LEN - 1, table.count, table.root, 1, 7, out, 4) == NCA_MISFIT, "a short scratch is a misfit");
+    expect(nca_table_add_root(PARTS, table.tally, NCA_TALLY_LEN - 1, GROWTH_SCRATCH, table.count, table.root, 1, 0, out, 4) == NCA_MISFIT, "a short tally is a misfit");
+    expect(nca_table_add_root(PARTS, COUNTS, GROWTH_SCRATCH, table.count, table.root, 1, 0, out, 4) == NCA_BAD_LABEL, "an opening of 0 is refused");
+    expect(nca_table_add_root(PARTS, COUNTS, GROWTH_SCRATCH, table.count, table.root, 2, 10000, out, 4) == NCA_BAD_LABEL, "so is one of 10,000");
     expect(out[0] == 9 && out[3] == 9 && memcmp(&before, &table, sizeof table) == 0, "a refusal changes nothing");
     expect(table_alike(1, 1, &yes) == 0 && yes == 1, "a node is alike to itself");
     expect(table_alike(1, 2, &yes) == 0 && yes == 0, "other labels are not alike");
-    expect(nca_table_inspect(PARTS, COUNTS, scratch, CAPACITY, table.count, &yes, 1) == 0 && yes == 1, "the table passes inspection");
+    expect(nca_table_inspect(PARTS, COUNTS, SCRATCH, table.count, &yes, 1) == 0 && yes == 1, "the table passes inspection");
     table.levels[1] += 1;
-    expect(nca_table_inspect(PARTS, COUNTS, scratch, CAPACITY, table.count, &yes, 1) == 0 && yes == 0, "a false level does not pass");
+    expect(nca_table_inspect(PARTS, COUNTS, SCRATCH, table.count, &yes, 1) == 0 && yes == 0, "a false level does not pass");
     table.levels[1] -= 1;
     table.tally[7] += 1;
-    expect(nca_table_inspect(PARTS, COUNTS, scratch, CAPACITY, table.count, &yes, 1) == 0 && yes == 0, "nor does a false tally");
+    expect(nca_table_inspect(PARTS, COUNTS, SCRATCH, table.count, &yes, 1) == 0 && yes == 0, "nor does a false tally");
     table.tally[7] = CAPACITY;
-    expect(nca_table_add_leaf(PARTS, COUNTS, scratch, CAPACITY, table.count, 0, 7, 1, out, 4) == NCA_CORRUPT, "a label that would be carried too often is refused");
+    expect(nca_table_add_leaf(PARTS, COUNTS, GROWTH_SCRATCH, table.count, 0, 7, 1, out, 4) == NCA_CORRUPT, "a label that would be carried too often is refused");
     table.tally[7] = 1;
 }
 
@@ -390,7 +396,7 @@ static void openings(void) {
     expect(table_query(1, 2, &a) == 0 && a.values[0] == 1 && a.values[5] == 0, "its old root keeps its label");
     expect(table_add_root_over(3, 65535, 9999, &g) == 0 && g.node == 4, "any number but 0 is a yes");
     expect(table_query(0, 3, &a) == 0 && a.values[0] == 3 && a.values[5] == 9999, "the old root answers by its opening");
-    expect(nca_table_inspect(PARTS, COUNTS, scratch, CAPACITY, table.count, &yes, 1) == 0 && yes == 1, "the table passes inspection");
+    expect(nca_table_inspect(PARTS, COUNTS, SCRATCH, table.count, &yes, 1) == 0 && yes == 1, "the table passes inspection");
     table.tally[7] = CAPACITY;
     expect(table_add_root_over(4, 1, 7, &g) == NCA_CORRUPT, "an opening that would be carried too often is refused");
     table.tally[7] = 2;
@@ -414,14 +420,14 @@ static void faces(void) {
     expect(table_alike(0, 7, &yes) == 0 && yes == 0 && table_alike(0, 8, &yes) == 0 && yes == 1, "its old root is in front");
     expect(table_add_first(&g) == 0 && table_link(6, 9, 5, out) == 0 && table_add_leaf(9, 5, 0, &g) == 0 && table_alike(6, 10, &yes) == 0 && yes == 1, "so is a linked root");
     expect(table_face(2) == 1 && table_face(4) == 1 && table_face(7) == 1, "the rows that it brings keep their faces");
-    expect(nca_table_inspect(PARTS, COUNTS, scratch, CAPACITY, table.count, &yes, 1) == 0 && yes == 1, "the table passes inspection");
+    expect(nca_table_inspect(PARTS, COUNTS, SCRATCH, table.count, &yes, 1) == 0 && yes == 1, "the table passes inspection");
     table.fields[12 * 9 + FACE] = 1;
-    expect(nca_table_inspect(PARTS, COUNTS, scratch, CAPACITY, table.count, &yes, 1) == 0 && yes == 0, "a root of face 1 does not pass");
+    expect(nca_table_inspect(PARTS, COUNTS, SCRATCH, table.count, &yes, 1) == 0 && yes == 0, "a root of face 1 does not pass");
     table.fields[12 * 9 + FACE] = 0;
     table.fields[12 * 6 + FACE] = 1;
-    expect(nca_table_inspect(PARTS, COUNTS, scratch, CAPACITY, table.count, &yes, 1) == 0 && yes == 1, "one that is a root no more does");
+    expect(nca_table_inspect(PARTS, COUNTS, SCRATCH, table.count, &yes, 1) == 0 && yes == 1, "one that is a root no more does");
     table.fields[12 * 6 + FACE] = 2;
-    expect(nca_table_inspect(PARTS, COUNTS, scratch, CAPACITY, table.count, &yes, 1) == 0 && yes == 0, "but not with face 2");
+    expect(nca_table_inspect(PARTS, COUNTS, SCRATCH, table.count, &yes, 1) == 0 && yes == 0, "but not with face 2");
 }
 
 /* Two trees in one table, and the second linked under a node of the first. */
@@ -450,7 +456,35 @@ static void several_trees(void) {
     expect(table_link(0, 4, 6, out) == 0 && out[1] == 4, "the head of a link is the first row of the receiving tree");
     expect(table_add_leaf(4, 6, 0, &g) == 0 && table.tally[0] == 2 && table.tally[6] == 2 && table.tally[MOST] == 0, "two labels are carried by two nodes each");
     expect(table_add_leaf(4, 6, 0, &g) == 0 && table.tally[6] == 3 && table.tally[MOST] == 6, "and one by the most");
-    expect(nca_table_inspect(PARTS, COUNTS, scratch, CAPACITY, table.count, &yes, 1) == 0 && yes == 1, "the table passes inspection");
+    expect(nca_table_inspect(PARTS, COUNTS, SCRATCH, table.count, &yes, 1) == 0 && yes == 1, "the table passes inspection");
+}
+
+/* Scratches of several lengths, lent to a table of capacity c: the refusals of a first node, a leaf, a new root, a link and an inspection. Growth takes 32
+ * numbers or more, the others as many as there are rows. */
+static void scratches(size_t c) {
+    static const size_t lengths[] = {8, NCA_GROWTH_SCRATCH_LEN - 1, NCA_GROWTH_SCRATCH_LEN, CAPACITY};
+    struct growth g = {0, 0, 0, 0};
+    uint16_t out[4], kept[CAPACITY];
+    uint32_t linked[2];
+    expect(nca_table_set_up(PARTS_AT(c), COUNTS, &table.count, 1) == 0, "set-up is served");
+    for (int i = 0; i < 2; i++)
+        expect(table_grown(nca_table_add_first(PARTS_AT(c), COUNTS, GROWTH_SCRATCH, table.count, out, 4), out, &g) == 0, "a first node is served");
+    table.root = 0;
+    for (size_t i = 0; i < sizeof lengths / sizeof *lengths; i++) {
+        size_t len = lengths[i];
+        unsigned first, leaf, root;
+        memset(scratch, (int)len, sizeof scratch);
+        memcpy(kept, scratch, sizeof scratch);
+        first = table_grown(nca_table_add_first(PARTS_AT(c), COUNTS, scratch, len, table.count, out, 4), out, &g);
+        leaf = table_grown(nca_table_add_leaf(PARTS_AT(c), COUNTS, scratch, len, table.count, 0, 7, 0, out, 4), out, &g);
+        root = table_grown(nca_table_add_root(PARTS_AT(c), COUNTS, scratch, len, table.count, table.root, 1, 7, out, 4), out, &g);
+        if (root == 0)
+            table.root = (uint16_t)g.node;
+        expect(memcmp(kept, scratch, sizeof scratch) == 0, "growth leaves the scratch as it was");
+        printf("scratch %u at %u: %u %u %u", (unsigned)len, (unsigned)c, first, leaf, root);
+        printf(" %u", nca_table_link(PARTS_AT(c), COUNTS, scratch, len, table.count, 1, 0, 5, linked, 2));
+        printf(" %u\n", nca_table_inspect(PARTS_AT(c), COUNTS, scratch, len, table.count, out, 1));
+    }
 }
 
 static void tree_calls(void) {
@@ -522,6 +556,8 @@ int main(void) {
     openings();
     faces();
     several_trees();
+    scratches(8);
+    scratches(CAPACITY);
     play(&TREE, FACES, sizeof FACES, tree_count);
     play(&TREE, OPENINGS, sizeof OPENINGS, tree_count);
     play(&TREE, OLDER, sizeof OLDER, tree_count);

@@ -20,7 +20,7 @@ extern "C" {
 enum nca_refusal {
     NCA_UNKNOWN_NODE = 1, /* a named node is not below the count */
     NCA_FULL = 2,         /* growth with as many nodes as there is room for */
-    NCA_MISFIT = 3,       /* the slices do not fit one capacity from 1 to 32,768, or a tally or an out slice is of another length */
+    NCA_MISFIT = 3,       /* the slices do not fit one capacity from 1 to 32,768, a tally or an out slice is of another length, or growth's scratch is shorter than 32 */
     NCA_CORRUPT = 4,      /* the table or the tally is none that these calls left */
     NCA_BAD_LABEL = 5,    /* a label, or an opening that is named, outside 1 to 9,999 */
     NCA_BAD_TAG = 6,      /* of a log's field: no such tag */
@@ -40,10 +40,14 @@ enum nca_refusal {
  * one names. Set-up clears the tally; growths and links keep it.
  * Each node has a face beside its label, 0 for front and 1 for back. A leaf names it; a first node, a new root, an old root that takes an opening
  * and a linked root have 0.
- * scratch (c) is memory apart from the table; growth looks at its length only, inspection and a served link may leave anything in it.
+ * scratch is memory apart from the table. Growth takes one of NCA_GROWTH_SCRATCH_LEN numbers or more at any capacity, looks at its length only and leaves it
+ * as it was; inspection and a link take one of exactly c numbers, and may leave anything in it where they are served.
  * The head of a growth is the row that headed the renumbering, that of a link the first row of the receiving stored tree. */
 
 #define NCA_TALLY_LEN 10001
+
+/* The shortest scratch that growth takes. */
+#define NCA_GROWTH_SCRATCH_LEN 32
 
 /* An empty table. out (1): count. */
 uint16_t nca_table_set_up(uint16_t *fields, size_t fields_len, uint64_t *numbers, size_t numbers_len,
@@ -51,7 +55,7 @@ uint16_t nca_table_set_up(uint16_t *fields, size_t fields_len, uint64_t *numbers
                           uint16_t *tally, size_t tally_len,
                           uint16_t *out, size_t out_len);
 
-/* The first node of a new tree, its root. out (4): count, the new node, rows renumbered, head. */
+/* The first node of a new tree, its root. scratch (32 or more). out (4): count, the new node, rows renumbered, head. */
 uint16_t nca_table_add_first(uint16_t *fields, size_t fields_len, uint64_t *numbers, size_t numbers_len,
                              int32_t *levels, size_t levels_len, uint16_t *ancestors, size_t ancestors_len,
                              uint16_t *tally, size_t tally_len,
@@ -59,7 +63,7 @@ uint16_t nca_table_add_first(uint16_t *fields, size_t fields_len, uint64_t *numb
                              uint16_t count,
                              uint16_t *out, size_t out_len);
 
-/* A new leaf. out (4): count, the new node, rows renumbered, head. The refusals in their order: 3, 1, 5, 13, 2, 4. */
+/* A new leaf. scratch (32 or more). out (4): count, the new node, rows renumbered, head. The refusals in their order: 3, 1, 5, 13, 2, 4. */
 uint16_t nca_table_add_leaf(uint16_t *fields, size_t fields_len, uint64_t *numbers, size_t numbers_len,
                             int32_t *levels, size_t levels_len, uint16_t *ancestors, size_t ancestors_len,
                             uint16_t *tally, size_t tally_len,
@@ -67,7 +71,7 @@ uint16_t nca_table_add_leaf(uint16_t *fields, size_t fields_len, uint64_t *numbe
                             uint16_t count, uint16_t parent, uint16_t label, uint16_t face,
                             uint16_t *out, size_t out_len);
 
-/* A new root over x, the root of a tree. out (4): count, the new node, rows renumbered, head.
+/* A new root over x, the root of a tree. scratch (32 or more). out (4): count, the new node, rows renumbered, head.
  * named: whether an opening is named, 0 for no, any other number for yes. Where it is, the opening becomes the label of x, with face 0, and one outside
  * 1 to 9,999 is refused; where not, x keeps its label and face and the opening's number is not looked at. The refusals in their order: 3, 1, 5, 10, 2, 4. */
 uint16_t nca_table_add_root(uint16_t *fields, size_t fields_len, uint64_t *numbers, size_t numbers_len,
@@ -77,7 +81,7 @@ uint16_t nca_table_add_root(uint16_t *fields, size_t fields_len, uint64_t *numbe
                             uint16_t count, uint16_t x, uint16_t named, uint16_t opening,
                             uint16_t *out, size_t out_len);
 
-/* The whole tree of root x under v, a node of another tree; x takes the label, with face 0. out (2): rows renumbered, head. */
+/* The whole tree of root x under v, a node of another tree; x takes the label, with face 0. scratch (c). out (2): rows renumbered, head. */
 uint16_t nca_table_link(uint16_t *fields, size_t fields_len, uint64_t *numbers, size_t numbers_len,
                         int32_t *levels, size_t levels_len, uint16_t *ancestors, size_t ancestors_len,
                         uint16_t *tally, size_t tally_len,
@@ -97,7 +101,7 @@ uint16_t nca_table_alike(const uint16_t *fields, size_t fields_len, const uint64
                          uint16_t count, uint16_t x, uint16_t y,
                          uint16_t *out, size_t out_len);
 
-/* out (1): 1 where the table follows all rules and the tally is right, else 0. */
+/* scratch (c). out (1): 1 where the table follows all rules and the tally is right, else 0. */
 uint16_t nca_table_inspect(const uint16_t *fields, size_t fields_len, const uint64_t *numbers, size_t numbers_len,
                            const int32_t *levels, size_t levels_len, const uint16_t *ancestors, size_t ancestors_len,
                            const uint16_t *tally, size_t tally_len,

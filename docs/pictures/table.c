@@ -4,7 +4,7 @@
 
 enum { CAPACITY = 16 };
 
-static uint16_t fields[12 * CAPACITY], ancestors[122 * CAPACITY], tally[NCA_TALLY_LEN], scratch[CAPACITY];
+static uint16_t fields[12 * CAPACITY], ancestors[122 * CAPACITY], tally[NCA_TALLY_LEN], scratch[NCA_GROWTH_SCRATCH_LEN];
 static uint64_t numbers[2 * CAPACITY];
 static int32_t levels[CAPACITY];
 
@@ -17,11 +17,11 @@ static const uint16_t parents[] = {0, 1, 2, 3, 1, 2, 6, 0, ROOT, 9, 3, 4};
 int main(void) {
     uint16_t out[4], root;
     if (nca_table_set_up(PARTS, out, 1) != 0) return 1;
-    if (nca_table_add_first(PARTS, scratch, CAPACITY, out[0], out, 4) != 0) return 1;
+    if (nca_table_add_first(PARTS, scratch, NCA_GROWTH_SCRATCH_LEN, out[0], out, 4) != 0) return 1;
     root = out[1];
     for (unsigned i = 0; i < sizeof parents / sizeof parents[0]; i++) {
-        uint16_t refusal = parents[i] == ROOT ? nca_table_add_root(PARTS, scratch, CAPACITY, out[0], root, 0, 0, out, 4)
-                                              : nca_table_add_leaf(PARTS, scratch, CAPACITY, out[0], parents[i], (uint16_t)(i + 2), 0, out, 4);
+        uint16_t refusal = parents[i] == ROOT ? nca_table_add_root(PARTS, scratch, NCA_GROWTH_SCRATCH_LEN, out[0], root, 0, 0, out, 4)
+                                              : nca_table_add_leaf(PARTS, scratch, NCA_GROWTH_SCRATCH_LEN, out[0], parents[i], (uint16_t)(i + 2), 0, out, 4);
         if (refusal != 0) return 1;
         if (parents[i] == ROOT) root = out[1];
     }

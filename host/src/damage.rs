@@ -2,7 +2,7 @@
 //! inspection says what the naive rules say, questions and growths what the naive reading says; a table that passes answers as its plain tree does.
 
 use crate::checks::{check, equal};
-use crate::engine::{Grown, Opening, Reply, Table, ENTRIES, FACE, FIELDS, NONE, NUMBERS, ROOT, TREE};
+use crate::engine::{Grown, Opening, Reply, Table, ENTRIES, FACE, FIELDS, GROWTH_SCRATCH, NONE, NUMBERS, ROOT, TREE};
 use crate::faces;
 use crate::lent::Lent;
 use crate::lists::{List, MIXES, SHAPES};
@@ -169,27 +169,26 @@ fn grown(call: &str, marks: Marks, tables: (&Table, &Table), good: Option<Reply<
 }
 
 fn grow(table: &Table, good: bool, random: &mut Random) {
-    let capacity = table.levels.part().len();
-    let length = if random.one_in(12) { capacity + 1 } else { capacity };
-    let scratch = Lent::new(length, random.word() as u16);
+    let length = if random.one_in(12) { GROWTH_SCRATCH - 1 } else { GROWTH_SCRATCH };
+    let table = &Table { growth_scratch: Lent::new(length, random.word() as u16), ..table.clone() };
     let plain = good.then(|| rules::plain(table));
 
     let (mut leaf, parent, label) = (table.clone(), node(table.count, random), [1, 7, 9999, 10000][random.below(4)]);
     let face = faces::any(random);
-    let found = leaf.add_leaf(&scratch, parent, label, face);
+    let found = leaf.add_leaf(parent, label, face);
     let expected = plain.clone().map(|mut p| p.add_leaf(length, parent, label, face));
-    let read = Reading::of(table).add_leaf(length, parent, label, face);
+    let read = Reading::of(table).add_leaf(parent, label, face);
     grown("leaf", Marks::leaf(label, face), (table, &leaf), expected, found, read);
 
     let mut first = table.clone();
-    let found = first.add_first(&scratch);
+    let found = first.add_first();
     let expected = plain.clone().map(|mut p| p.add_first(length));
-    grown("first node", Marks::FIRST, (table, &first), expected, found, Reading::of(table).add_first(length));
+    grown("first node", Marks::FIRST, (table, &first), expected, found, Reading::of(table).add_first());
 
     let (mut over, x, opening) = (table.clone(), root(table, random), Opening::any([1, 7, 9999, 10000][random.below(4)], random));
-    let found = over.add_root(&scratch, x, opening);
+    let found = over.add_root(x, opening);
     let expected = plain.clone().map(|mut p| p.add_root(length, x, opening.label()));
-    let read = Reading::of(table).add_root(length, x, opening.label());
+    let read = Reading::of(table).add_root(x, opening.label());
     grown(&format!("new root with {opening:?}"), Marks::over(x, opening), (table, &over), expected, found, read);
 }
 

@@ -1,4 +1,4 @@
-//! The engine's table form (include/vundreli.h), each call checked: guards untouched, and on a refusal nothing stored.
+//! The engine's table form (include/vundreli.h), each call checked: guards untouched, on a refusal nothing stored, and growth's scratch as it was.
 
 use crate::checks::check;
 use crate::lent::{Lent, Word};
@@ -10,6 +10,9 @@ pub const NONE: u16 = 65535;
 pub const FIELDS: usize = 12;
 pub const NUMBERS: usize = 2;
 pub const ENTRIES: usize = 122;
+
+/// The shortest scratch that growth takes, at any capacity.
+pub const GROWTH_SCRATCH: usize = 32;
 
 /// The places of a row's fields; the root is that of the tree, in its first row.
 pub const PARENT: usize = 0;
@@ -43,6 +46,8 @@ pub struct Table {
     pub levels: Lent<i32>,
     pub ancestors: Lent<u16>,
     pub tally: Lent<u16>,
+    /// What growths are lent beside these, as short as may be unless a test lends another. Links and inspections are handed theirs.
+    pub growth_scratch: Lent<u16>,
     pub count: u16,
     /// Whether every call compares all parts with a copy made before it: for small tables.
     pub watched: bool,
@@ -130,6 +135,7 @@ impl Table {
             levels: Lent::new(capacity, 0),
             ancestors: Lent::new(ENTRIES * capacity, 0),
             tally: Lent::new(tally::LENGTH, 0),
+            growth_scratch: Lent::new(GROWTH_SCRATCH, 0),
             count: 0,
             watched,
         }
@@ -165,7 +171,7 @@ impl Table {
 
     fn is_guarded(&self) -> bool {
         let rows = self.fields.is_guarded() && self.numbers.is_guarded() && self.levels.is_guarded() && self.ancestors.is_guarded();
-        rows && self.tally.is_guarded()
+        rows && self.tally.is_guarded() && self.growth_scratch.is_guarded()
     }
 
     fn copy(&self) -> Option<Table> {
@@ -201,45 +207,42 @@ impl Table {
         Ok(())
     }
 
-    pub fn add_first(&mut self, scratch: &Lent<u16>) -> Reply<Grown> {
-        self.add_first_to(Lent::marked(GROWN), scratch)
+    pub fn add_first(&mut self) -> Reply<Grown> {
+        self.add_first_to(Lent::marked(GROWN))
     }
 
     /// A first node that answers to a slice of any length.
-    pub fn add_first_to(&mut self, mut out: Lent<u16>, scratch: &Lent<u16>) -> Reply<Grown> {
-        let (before, kept) = (self.copy(), self.watched.then(|| scratch.clone()));
-        let s = scratch.part();
-        let o = out.part_mut();
-        let code = lend_mut!(nca_table_add_first, self, s.as_ptr(), s.len(), self.count, o.as_mut_ptr(), o.len());
-        self.grown("first node", code, before, scratch, kept, &out)
+    pub fn add_first_to(&mut self, mut out: Lent<u16>) -> Reply<Grown> {
+        let (before, kept) = (self.copy(), self.growth_scratch.clone());
+        let (s, o) = (self.growth_scratch.part_mut(), out.part_mut());
+        let code = lend_mut!(nca_table_add_first, self, s.as_mut_ptr(), s.len(), self.count, o.as_mut_ptr(), o.len());
+        self.grown("first node", code, before, kept, &out)
     }
 
-    pub fn add_leaf(&mut self, scratch: &Lent<u16>, parent: u16, label: u16, face: u16) -> Reply<Grown> {
-        self.add_leaf_to(Lent::marked(GROWN), scratch, (parent, label, face))
+    pub fn add_leaf(&mut self, parent: u16, label: u16, face: u16) -> Reply<Grown> {
+        self.add_leaf_to(Lent::marked(GROWN), (parent, label, face))
     }
 
     /// A leaf that answers to a slice of any length.
-    pub fn add_leaf_to(&mut self, mut out: Lent<u16>, scratch: &Lent<u16>, (parent, label, face): (u16, u16, u16)) -> Reply<Grown> {
-        let (before, kept) = (self.copy(), self.watched.then(|| scratch.clone()));
-        let s = scratch.part();
-        let o = out.part_mut();
-        let code = lend_mut!(nca_table_add_leaf, self, s.as_ptr(), s.len(), self.count, parent, label, face, o.as_mut_ptr(), o.len());
-        self.grown("leaf", code, before, scratch, kept, &out)
+    pub fn add_leaf_to(&mut self, mut out: Lent<u16>, (parent, label, face): (u16, u16, u16)) -> Reply<Grown> {
+        let (before, kept) = (self.copy(), self.growth_scratch.clone());
+        let (s, o) = (self.growth_scratch.part_mut(), out.part_mut());
+        let code = lend_mut!(nca_table_add_leaf, self, s.as_mut_ptr(), s.len(), self.count, parent, label, face, o.as_mut_ptr(), o.len());
+        self.grown("leaf", code, before, kept, &out)
     }
 
     /// A new root over x.
-    pub fn add_root(&mut self, scratch: &Lent<u16>, x: u16, opening: Opening) -> Reply<Grown> {
-        self.add_root_to(Lent::marked(GROWN), scratch, x, opening)
+    pub fn add_root(&mut self, x: u16, opening: Opening) -> Reply<Grown> {
+        self.add_root_to(Lent::marked(GROWN), x, opening)
     }
 
     /// A new root that answers to a slice of any length.
-    pub fn add_root_to(&mut self, mut out: Lent<u16>, scratch: &Lent<u16>, x: u16, opening: Opening) -> Reply<Grown> {
-        let (before, kept) = (self.copy(), self.watched.then(|| scratch.clone()));
-        let s = scratch.part();
-        let o = out.part_mut();
+    pub fn add_root_to(&mut self, mut out: Lent<u16>, x: u16, opening: Opening) -> Reply<Grown> {
+        let (before, kept) = (self.copy(), self.growth_scratch.clone());
+        let (s, o) = (self.growth_scratch.part_mut(), out.part_mut());
         let Opening { named, number } = opening;
-        let code = lend_mut!(nca_table_add_root, self, s.as_ptr(), s.len(), self.count, x, named, number, o.as_mut_ptr(), o.len());
-        self.grown("new root", code, before, scratch, kept, &out)
+        let code = lend_mut!(nca_table_add_root, self, s.as_mut_ptr(), s.len(), self.count, x, named, number, o.as_mut_ptr(), o.len());
+        self.grown("new root", code, before, kept, &out)
     }
 
     /// The root of x's tree, as its rows record it; none where that leads past the count.
@@ -251,20 +254,10 @@ impl Table {
         self.fields.part()[FIELDS * first as usize + ROOT]
     }
 
-    fn grown(
-        &mut self,
-        call: &str,
-        code: u16,
-        before: Option<Table>,
-        scratch: &Lent<u16>,
-        kept: Option<Lent<u16>>,
-        out: &Lent<u16>,
-    ) -> Reply<Grown> {
+    /// What a growth said; its scratch, of which it looks at the length only, is as it was kept.
+    fn grown(&mut self, call: &str, code: u16, before: Option<Table>, kept: Lent<u16>, out: &Lent<u16>) -> Reply<Grown> {
         self.after(call, code, before, true, out);
-        check(scratch.is_guarded(), || format!("{call} touched a guard of the scratch"));
-        if let Some(kept) = kept {
-            check(code == 0 || kept.part() == scratch.part(), || format!("{call} gave {code} and changed the scratch"));
-        }
+        check(kept.part() == self.growth_scratch.part(), || format!("{call} gave {code} and changed the scratch"));
         self.served(code, out).map(|_| Grown { node: out.part()[1], rows: out.part()[2], head: out.part()[3] })
     }
 

@@ -2,7 +2,7 @@
 //! inspection.
 
 use crate::checks::{check, equal};
-use crate::engine::{Grown, Opening, Reply, Table, FACE, FIELDS, TREE};
+use crate::engine::{Grown, Opening, Reply, Table, FACE, FIELDS, GROWTH_SCRATCH, TREE};
 use crate::hand::{column, empty, two_trees};
 use crate::lent::Lent;
 use crate::lists::{List, MIXES, SHAPES};
@@ -50,16 +50,16 @@ pub fn first_of(set: usize) -> Reply<()> {
     ORDER.into_iter().find(|refusal| has(set, *refusal)).map_or(Ok(()), Err)
 }
 
-fn leaf(table: &mut Table, scratch: &Lent<u16>, (parent, label, face): (u16, u16, u16), node: u16) {
-    let found = table.add_leaf(scratch, parent, label, face);
+fn leaf(table: &mut Table, (parent, label, face): (u16, u16, u16), node: u16) {
+    let found = table.add_leaf(parent, label, face);
     equal(found.map(|g| g.node), Ok(node), || format!("a leaf of label {label} and face {face}"));
 }
 
 /// A first node, and these leaves.
 fn tree(capacity: usize, leaves: &[(u16, u16, u16)]) -> (Table, Lent<u16>) {
     let (mut table, scratch) = empty(capacity);
-    equal(table.add_first(&scratch).map(|g| g.node), Ok(0), || "a first node".into());
-    leaves.iter().zip(1..).for_each(|(given, node)| leaf(&mut table, &scratch, *given, node));
+    equal(table.add_first().map(|g| g.node), Ok(0), || "a first node".into());
+    leaves.iter().zip(1..).for_each(|(given, node)| leaf(&mut table, *given, node));
     (table, scratch)
 }
 
@@ -98,14 +98,14 @@ fn whole_list() {
 /// An old root that took an opening is in front: it is alike with a leaf of that label in front, and not with one on the back.
 fn through_opening() {
     let (mut table, mut scratch) = tree(8, &[]);
-    equal(table.add_root(&scratch, 0, Opening::of(7)), Ok(Grown { node: 1, rows: 2, head: 0 }), || "a new root through 7".into());
-    leaf(&mut table, &scratch, (1, 7, 1), 2);
-    leaf(&mut table, &scratch, (1, 7, 0), 3);
+    equal(table.add_root(0, Opening::of(7)), Ok(Grown { node: 1, rows: 2, head: 0 }), || "a new root through 7".into());
+    leaf(&mut table, (1, 7, 1), 2);
+    leaf(&mut table, (1, 7, 0), 3);
     alike(&table, &[(0, 2, 0), (0, 3, 1), (2, 3, 0)]);
-    equal(table.add_root(&scratch, 1, Opening::NONE).map(|g| g.node), Ok(4), || "a new root that names none".into());
-    equal(table.add_root(&scratch, 4, Opening::of(7)).map(|g| g.node), Ok(5), || "another through 7".into());
-    leaf(&mut table, &scratch, (5, 7, 1), 6);
-    leaf(&mut table, &scratch, (5, 7, 0), 7);
+    equal(table.add_root(1, Opening::NONE).map(|g| g.node), Ok(4), || "a new root that names none".into());
+    equal(table.add_root(4, Opening::of(7)).map(|g| g.node), Ok(5), || "another through 7".into());
+    leaf(&mut table, (5, 7, 1), 6);
+    leaf(&mut table, (5, 7, 0), 7);
     alike(&table, &[(0, 2, 0), (0, 3, 1), (4, 6, 0), (4, 7, 1), (1, 6, 0)]);
     equal(of(&table), vec![0, 0, 1, 0, 0, 0, 1, 0], || "faces after new roots".into());
     equal(table.inspect(&mut scratch), Ok(1), || "inspection after new roots".into());
@@ -114,16 +114,16 @@ fn through_opening() {
 /// A linked root is in front; the rows below it keep their faces, and so do those of a tree that is turned round.
 fn through_door() {
     let (mut table, mut scratch) = tree(12, &[(0, 7, 0), (0, 7, 1), (1, 4, 1), (2, 4, 1)]);
-    equal(table.add_root(&scratch, 0, Opening::of(3)).map(|g| g.node), Ok(5), || "a new root through 3".into());
-    leaf(&mut table, &scratch, (5, 3, 1), 6);
-    equal(table.add_first(&scratch).map(|g| g.node), Ok(7), || "a second first node".into());
+    equal(table.add_root(0, Opening::of(3)).map(|g| g.node), Ok(5), || "a new root through 3".into());
+    leaf(&mut table, (5, 3, 1), 6);
+    equal(table.add_first().map(|g| g.node), Ok(7), || "a second first node".into());
     equal(table.link(&mut scratch, 5, 7, 9).map(|l| l.head), Ok(7), || "a link by door 9".into());
     equal(of(&table), vec![0, 0, 1, 1, 1, 0, 1, 0], || "faces after a link".into());
-    leaf(&mut table, &scratch, (7, 9, 1), 8);
-    leaf(&mut table, &scratch, (7, 9, 0), 9);
+    leaf(&mut table, (7, 9, 1), 8);
+    leaf(&mut table, (7, 9, 0), 9);
     alike(&table, &[(5, 8, 0), (5, 9, 1), (0, 6, 0), (1, 2, 0), (3, 4, 0)]);
-    leaf(&mut table, &scratch, (9, 3, 0), 10);
-    leaf(&mut table, &scratch, (9, 3, 1), 11);
+    leaf(&mut table, (9, 3, 0), 10);
+    leaf(&mut table, (9, 3, 1), 11);
     alike(&table, &[(0, 10, 1), (0, 11, 0), (6, 11, 1), (6, 10, 0)]);
     equal(table.inspect(&mut scratch), Ok(1), || "inspection after a link".into());
 }
@@ -133,11 +133,11 @@ fn over_anything() {
     for stood in TRIED {
         let (mut table, mut scratch) = empty(6);
         (0..6).for_each(|row| put(&mut table, row, stood));
-        equal(table.add_first(&scratch).map(|g| g.node), Ok(0), || "a first node".into());
-        leaf(&mut table, &scratch, (0, 7, 0), 1);
-        leaf(&mut table, &scratch, (0, 7, 1), 2);
-        equal(table.add_root(&scratch, 0, Opening::NONE).map(|g| g.node), Ok(3), || "a new root that names none".into());
-        equal(table.add_root(&scratch, 3, Opening::of(5)).map(|g| g.node), Ok(4), || "a new root through 5".into());
+        equal(table.add_first().map(|g| g.node), Ok(0), || "a first node".into());
+        leaf(&mut table, (0, 7, 0), 1);
+        leaf(&mut table, (0, 7, 1), 2);
+        equal(table.add_root(0, Opening::NONE).map(|g| g.node), Ok(3), || "a new root that names none".into());
+        equal(table.add_root(3, Opening::of(5)).map(|g| g.node), Ok(4), || "a new root through 5".into());
         table.count = 6;
         equal(of(&table), vec![0, 0, 1, 0, 0, stood], || format!("faces where {stood} stood"));
         table.count = 5;
@@ -157,12 +157,12 @@ fn root_with_face() {
         equal(table.link(&mut scratch, 0, 1, 5), Err(11), || "11 comes before 4".into());
         equal(table.link(&mut scratch, 0, 2, 5), Err(4), || format!("a link of a root of face {face}"));
         equal(table.link(&mut scratch, 2, 0, 5), Err(4), || format!("a link under a root of face {face}"));
-        equal(table.add_root(&scratch, 0, Opening::of(0)), Err(5), || "an opening that is none".into());
+        equal(table.add_root(0, Opening::of(0)), Err(5), || "an opening that is none".into());
         equal(of(&table), vec![*face, 0, 0], || format!("{face} after refusals"));
-        equal(table.add_root(&scratch, 0, Opening::of(5)).map(|g| g.node), Ok(3), || format!("a new root over one of face {face}"));
+        equal(table.add_root(0, Opening::of(5)).map(|g| g.node), Ok(3), || format!("a new root over one of face {face}"));
         equal(of(&table), vec![0, 0, 0, 0], || format!("the opening's face in place of {face}"));
         equal(table.inspect(&mut scratch), Ok(1), || "inspection".into());
-        equal(kept.add_root(&scratch, 0, Opening { named: 0, number: 5 }).map(|g| g.node), Ok(3), || "a new root that names none".into());
+        equal(kept.add_root(0, Opening { named: 0, number: 5 }).map(|g| g.node), Ok(3), || "a new root that names none".into());
         equal(of(&kept), vec![*face, 0, 0, 0], || format!("{face} kept"));
         equal(kept.inspect(&mut scratch), Ok((*face == 1) as u16), || format!("inspection of an old root of face {face}"));
     }
@@ -218,10 +218,10 @@ fn refused(tables: &[Table; 2], set: usize, odd: (u16, u16), by_tally: bool) {
         table.ancestors.part_mut()[TREE] = 60000;
     }
     let given = (if at(1) { 4 } else { 0 }, if at(5) { odd.0 } else { 3 }, if at(13) { odd.1 } else { 1 });
-    for (scratch, out) in [(5, 4), (4, 3), (5, 5), (3, 4)] {
-        let (scratch, out) = if at(3) { (scratch, out) } else { (4, 4) };
-        let mut table = table.clone();
-        let found = table.add_leaf_to(Lent::marked(out), &Lent::new(scratch, 7), given);
+    for (scratch, out) in [(GROWTH_SCRATCH - 1, 4), (GROWTH_SCRATCH, 3), (GROWTH_SCRATCH + 1, 5), (4, 4)] {
+        let (scratch, out) = if at(3) { (scratch, out) } else { (GROWTH_SCRATCH, 4) };
+        let mut table = Table { growth_scratch: Lent::new(scratch, 7), ..table.clone() };
+        let found = table.add_leaf_to(Lent::marked(out), given);
         equal(found.map(|_| ()), first_of(set), || format!("a leaf {given:?}, refusals {set:b}"));
         check(found.is_err() || of(&table).last() == Some(&1), || "the face of a leaf that was served".into());
     }
@@ -229,9 +229,9 @@ fn refused(tables: &[Table; 2], set: usize, odd: (u16, u16), by_tally: bool) {
 
 /// Every set of the refusals of a leaf at once, with every label and face that is none: the first in the order 3, 1, 5, 13, 2, 4 is given.
 pub fn refusals() -> String {
-    let (good, scratch) = two_trees();
+    let (good, _) = two_trees();
     let mut full = good.clone();
-    leaf(&mut full, &scratch, (0, 3, 1), 3);
+    leaf(&mut full, (0, 3, 1), 3);
     let tables = [good, full];
     let mut sets = 0;
     for set in 0..1 << ORDER.len() {
@@ -258,9 +258,9 @@ impl Twins {
     }
 
     /// A growth of both; the call is told whether faces are meant.
-    fn grow(&mut self, expected: Reply<u16>, call: impl Fn(&mut Table, &Lent<u16>, bool) -> Reply<Grown>) {
-        let found = call(&mut self.faced, &self.scratch, true);
-        equal(found, call(&mut self.front, &self.scratch, false), || "a growth with faces and without".into());
+    fn grow(&mut self, expected: Reply<u16>, call: impl Fn(&mut Table, bool) -> Reply<Grown>) {
+        let found = call(&mut self.faced, true);
+        equal(found, call(&mut self.front, false), || "a growth with faces and without".into());
         equal(found.map(|g| g.node), expected, || "a growth with faces".into());
     }
 
@@ -273,22 +273,22 @@ impl Twins {
 
     /// One growth or link of both.
     fn call(&mut self, random: &mut Random) {
-        let (count, capacity) = (self.plain.count(), self.scratch.part().len());
+        let count = self.plain.count();
         if count == 0 || random.one_in(10) {
-            let expected = self.plain.add_first(capacity);
-            return self.grow(expected, |table, scratch, _| table.add_first(scratch));
+            let expected = self.plain.add_first(GROWTH_SCRATCH);
+            return self.grow(expected, |table, _| table.add_first());
         }
         let (x, v, label) = (random.below(count) as u16, random.below(count) as u16, 1 + random.below(2) as u16);
         let (root, opening, face) = (self.plain.root_of(v), Opening::any(label, random), any(random));
         match random.below(9) {
             0 | 1 => {
-                let expected = self.plain.add_root(capacity, root, opening.label());
-                self.grow(expected, |table, scratch, _| table.add_root(scratch, root, opening));
+                let expected = self.plain.add_root(GROWTH_SCRATCH, root, opening.label());
+                self.grow(expected, |table, _| table.add_root(root, opening));
             }
             2 => self.link(root, x, label),
             _ => {
-                let expected = self.plain.add_leaf(capacity, x, label, face);
-                self.grow(expected, |table, scratch, faced| table.add_leaf(scratch, x, label, if faced || face > 1 { face } else { 0 }));
+                let expected = self.plain.add_leaf(GROWTH_SCRATCH, x, label, face);
+                self.grow(expected, |table, faced| table.add_leaf(x, label, if faced || face > 1 { face } else { 0 }));
             }
         }
     }

@@ -89,9 +89,9 @@ impl Met {
     }
 
     /// A growth, looked at or not.
-    fn grow(&mut self, growth: Growth, table: &mut Table, scratch: &Lent<u16>, look: bool) {
+    fn grow(&mut self, growth: Growth, table: &mut Table, look: bool) {
         let before = look.then(|| table.clone());
-        let reply = growth.call(table, scratch);
+        let reply = growth.call(table);
         match (before, reply) {
             (None, _) => (),
             (Some(before), Ok(grown)) => self.growth(growth, &before, table, grown),
@@ -201,7 +201,7 @@ impl List {
         } else {
             Growth::Leaf(self.shape.parent(count, random) as u16, List::label(random), faces::any(random))
         };
-        met.grow(growth, &mut self.table, &self.scratch, look);
+        met.grow(growth, &mut self.table, look);
     }
 }
 
@@ -261,11 +261,11 @@ impl Met {
     /// Every growth of a table, and a link of each node.
     fn each(&mut self, table: &Table, random: &mut Random) {
         let mut scratch = Lent::new(capacity(table), 0);
-        self.grow(Growth::First, &mut table.clone(), &scratch, true);
+        self.grow(Growth::First, &mut table.clone(), true);
         for x in 0..table.count {
-            self.grow(Growth::Leaf(x, 1, x % 2), &mut table.clone(), &scratch, true);
+            self.grow(Growth::Leaf(x, 1, x % 2), &mut table.clone(), true);
             for opening in [Opening::NONE, Opening::of(1)] {
-                self.grow(Growth::Root(x, opening), &mut table.clone(), &scratch, true);
+                self.grow(Growth::Root(x, opening), &mut table.clone(), true);
             }
             let v = random.below(table.count as usize) as u16;
             self.join((x, v, 1), &mut table.clone(), &mut scratch);

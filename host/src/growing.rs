@@ -3,7 +3,7 @@
 
 use std::collections::BTreeSet;
 
-use crate::engine::{Grown, Reply, ENTRIES, NONE};
+use crate::engine::{Grown, Reply, ENTRIES, GROWTH_SCRATCH, NONE};
 use crate::reading::{Cause, Reading, Row, LEVELS, LIMIT};
 use crate::tally;
 
@@ -15,10 +15,21 @@ struct Leaf {
 }
 
 impl Reading<'_> {
-    /// The capacity of the parts, where tally and scratch fit too.
-    pub fn fits(&self, scratch: usize) -> Reply<usize> {
+    /// The capacity of the parts, where the tally fits too.
+    pub fn fits(&self) -> Reply<usize> {
         let tally = self.table.tally.part().len();
-        self.capacity().and_then(|c| if (tally, scratch) == (tally::LENGTH, c) { Ok(c) } else { Err(3) })
+        self.capacity().and_then(|c| if tally == tally::LENGTH { Ok(c) } else { Err(3) })
+    }
+
+    /// The same, where growth's scratch is long enough.
+    fn fits_growth(&self) -> Reply<usize> {
+        let scratch = self.table.growth_scratch.part().len();
+        self.fits().and_then(|c| if scratch >= GROWTH_SCRATCH { Ok(c) } else { Err(3) })
+    }
+
+    /// The same, where a link's scratch has the capacity.
+    fn fits_link(&self, scratch: usize) -> Reply<usize> {
+        self.fits().and_then(|c| if scratch == c { Ok(c) } else { Err(3) })
     }
 
     /// Last of all: the entry of the label that the growth counts for can grow.
@@ -57,16 +68,16 @@ impl Reading<'_> {
         }
     }
 
-    pub fn add_first(&mut self, scratch: usize) -> Reply<Grown> {
-        let capacity = self.fits(scratch)?;
+    pub fn add_first(&mut self) -> Reply<Grown> {
+        let capacity = self.fits_growth()?;
         self.has_room(capacity)?;
         self.has_count(capacity)?;
         self.is_countable(capacity, 0)?;
         Ok(Grown { node: self.table.count, rows: 1, head: self.table.count })
     }
 
-    pub fn add_leaf(&mut self, scratch: usize, parent: u16, label: u16, face: u16) -> Reply<Grown> {
-        let capacity = self.fits(scratch)?;
+    pub fn add_leaf(&mut self, parent: u16, label: u16, face: u16) -> Reply<Grown> {
+        let capacity = self.fits_growth()?;
         self.knows(&[parent])?;
         Self::has_label(label)?;
         Self::has_face(face)?;
@@ -90,8 +101,8 @@ impl Reading<'_> {
     }
 
     /// A new root over x. The label and the face of x, which the opening takes the place of, are not looked at.
-    pub fn add_root(&mut self, scratch: usize, x: u16, opening: Option<u16>) -> Reply<Grown> {
-        let capacity = self.fits(scratch)?;
+    pub fn add_root(&mut self, x: u16, opening: Option<u16>) -> Reply<Grown> {
+        let capacity = self.fits_growth()?;
         self.knows(&[x])?;
         Self::has_opening(opening)?;
         self.has_count(capacity)?;
@@ -103,11 +114,11 @@ impl Reading<'_> {
     }
 
     /// Document 01's new root: over that of row 0's tree, or the first node, which counts for label 0.
-    pub fn add_root_first_tree(&mut self, scratch: usize, opening: Option<u16>) -> Reply<Grown> {
-        let capacity = self.fits(scratch)?;
+    pub fn add_root_first_tree(&mut self, opening: Option<u16>) -> Reply<Grown> {
+        let capacity = self.fits()?;
         Self::has_opening(opening)?;
         if self.table.count == 0 {
-            return self.add_first(scratch);
+            return self.add_first();
         }
         self.has_room(capacity)?;
         self.has_count(capacity)?;
@@ -120,7 +131,7 @@ impl Reading<'_> {
 
     /// What a link refuses before it inspects the table; else its head, the first row of v's tree.
     pub fn link(&mut self, scratch: usize, x: u16, v: u16, label: u16) -> Reply<u16> {
-        let capacity = self.fits(scratch)?;
+        let capacity = self.fits_link(scratch)?;
         self.knows(&[x, v])?;
         Self::has_label(label)?;
         self.has_count(capacity)?;

@@ -3,7 +3,7 @@
 
 use crate::cases;
 use crate::checks::{check, equal};
-use crate::engine::{Grown, Opening, Reply, Table};
+use crate::engine::{Grown, Linked, Opening, Reply, Table, GROWTH_SCRATCH};
 use crate::faces;
 use crate::lent::Lent;
 use crate::plain::Plain;
@@ -92,6 +92,8 @@ pub struct List {
     /// A node that is added counts once, and once more in each link that moves it.
     joinings: u64,
     served: Served,
+    /// What the last growth and the last link said.
+    pub said: (Option<Reply<Grown>>, Option<Reply<Linked>>),
 }
 
 impl List {
@@ -108,15 +110,16 @@ impl List {
             total: 0,
             joinings: 0,
             served: Served::default(),
+            said: (None, None),
         }
     }
 
-    /// The scratch, now and then of another length.
+    /// The scratch of a link or an inspection, now and then of another length.
     fn lend(&mut self, random: &mut Random) -> Lent<u16> {
         if !random.one_in(24) {
             return self.scratch.clone();
         }
-        let lengths = [0, 1, self.capacity - 1, self.capacity + 1, 2 * self.capacity];
+        let lengths = [0, 1, self.capacity - 1, self.capacity + 1, 2 * self.capacity, GROWTH_SCRATCH];
         Lent::new(lengths[random.below(lengths.len())], random.word() as u16)
     }
 
@@ -150,7 +153,19 @@ impl List {
         }
     }
 
+    /// A growth or a link; now and then growth has a scratch of another length, which may be too short.
     pub fn grow(&mut self, random: &mut Random) {
+        if !random.one_in(24) {
+            return self.grow_any(random);
+        }
+        let lengths = [0, 1, GROWTH_SCRATCH - 1, GROWTH_SCRATCH + 1, self.capacity, 2 * self.capacity];
+        let other = Lent::new(lengths[random.below(lengths.len())], random.word() as u16);
+        let kept = std::mem::replace(&mut self.table.growth_scratch, other);
+        self.grow_any(random);
+        self.table.growth_scratch = kept;
+    }
+
+    fn grow_any(&mut self, random: &mut Random) {
         let count = self.plain.count();
         if count == 0 && !random.one_in(8) || random.one_in(self.mix.firsts) {
             self.add_first(random)
@@ -164,8 +179,7 @@ impl List {
     }
 
     fn add_first(&mut self, random: &mut Random) {
-        let scratch = self.lend(random);
-        let (found, expected) = (self.table.add_first(&scratch), self.plain.add_first(scratch.part().len()));
+        let (found, expected) = (self.table.add_first(), self.plain.add_first(self.table.growth_scratch.part().len()));
         self.grown("first node", found, expected, random, |stored| stored.add_first());
     }
 
@@ -176,17 +190,17 @@ impl List {
     }
 
     fn add_leaf_under(&mut self, parent: u16, random: &mut Random) {
-        let (scratch, label, face) = (self.lend(random), List::label(random), faces::any(random));
-        let found = self.table.add_leaf(&scratch, parent, label, face);
-        let expected = self.plain.add_leaf(scratch.part().len(), parent, label, face);
+        let (label, face) = (List::label(random), faces::any(random));
+        let found = self.table.add_leaf(parent, label, face);
+        let expected = self.plain.add_leaf(self.table.growth_scratch.part().len(), parent, label, face);
         self.served.backs += (found.is_ok() && face == 1) as usize;
         self.grown("leaf", found, expected, random, |stored| stored.add_leaf(parent, label, face));
     }
 
     fn add_root(&mut self, random: &mut Random) {
-        let (scratch, x, opening) = (self.lend(random), self.root(random), Opening::any(List::label(random), random));
-        let found = self.table.add_root(&scratch, x, opening);
-        let expected = self.plain.add_root(scratch.part().len(), x, opening.label());
+        let (x, opening) = (self.root(random), Opening::any(List::label(random), random));
+        let found = self.table.add_root(x, opening);
+        let expected = self.plain.add_root(self.table.growth_scratch.part().len(), x, opening.label());
         self.served.openings += (found.is_ok() && opening.label().is_some()) as usize;
         self.grown(&format!("new root over {x} with {opening:?}"), found, expected, random, |stored| stored.add_root(x, opening.label()));
     }
@@ -200,6 +214,7 @@ impl List {
         random: &mut Random,
         model: impl FnOnce(&mut Stored) -> Grown,
     ) {
+        self.said.0 = Some(found);
         equal(found.map(|g| g.node), expected, || self.describe(call));
         equal(self.table.count as usize, self.plain.count(), || "the count".into());
         self.tallied(call);
@@ -222,6 +237,7 @@ impl List {
         let fits = scratch.part().len();
         let found = self.table.link(&mut scratch, x, v, label);
         let expected = self.plain.link(fits, x, v, label);
+        self.said.1 = Some(found);
         equal(found.map(|_| ()), expected.map(|_| ()), || self.describe(&format!("link {x} {v}")));
         self.tallied("link");
         let (Ok(linked), Ok(joined)) = (found, expected) else { return };

@@ -5,7 +5,7 @@ use std::io::Write;
 use std::process::{Command, Stdio};
 
 use crate::checks::equal;
-use crate::engine::Grown;
+use crate::engine::{Grown, GROWTH_SCRATCH};
 use crate::faces;
 use crate::plain::Plain;
 use crate::random::Random;
@@ -57,12 +57,12 @@ impl Printer {
         match (tag, body.len()) {
             (1, 4) | (5, 5) => {
                 let face = body.get(4).map_or(0, |face| u16::from(*face));
-                let reply = self.plain.add_leaf(CAPACITY, number(0), number(2), face);
+                let reply = self.plain.add_leaf(GROWTH_SCRATCH, number(0), number(2), face);
                 self.grown(ordinal, 'L', reply, |stored| stored.add_leaf(number(0), number(2), face));
             }
             (2, length @ (0 | 2)) => {
                 let opening = (length == 2).then(|| number(0));
-                let reply = self.plain.add_root_first_tree(CAPACITY, opening);
+                let reply = self.plain.add_root_first_tree(GROWTH_SCRATCH, opening);
                 self.grown(ordinal, 'T', reply, |stored| stored.add_root_first_tree(opening));
             }
             (3, 4) => match self.plain.query(number(0), number(2)) {

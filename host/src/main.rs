@@ -25,6 +25,7 @@ mod raw;
 mod reading;
 mod refusals;
 mod rules;
+mod scratch;
 mod stored;
 mod tally;
 mod trees;
@@ -34,7 +35,7 @@ mod vectors;
 use std::process::ExitCode;
 
 /// A group of tests, and what it says of itself beside its counts.
-const GROUPS: [(&str, fn() -> String); 37] = [
+const GROUPS: [(&str, fn() -> String); 40] = [
     ("capacities 0, 1, 32,768 and 32,769", cases::capacities),
     ("parts that do not fit", cases::misfits),
     ("answers of another length", cases::answers),
@@ -45,6 +46,9 @@ const GROUPS: [(&str, fn() -> String); 37] = [
     ("every set of a leaf's refusals", faces::refusals),
     ("lists of calls with faces and without", faces::without),
     ("every face of every row inspected", faces::inspected),
+    ("every length of a scratch", scratch::lengths),
+    ("lists of calls with scratches of several lengths, at capacities to 1,024", scratch::side_by_side),
+    ("lists of calls with scratches of several lengths, at capacity 32,768", scratch::large),
     ("written lists of calls", vectors::lists),
     ("lists of calls at capacities to 20", lists::small),
     ("lists of calls at capacities to 1,024", lists::middle),

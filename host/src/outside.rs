@@ -4,7 +4,6 @@ use crate::engine::{
     Grown, Opening, Reply, Table, ENTRIES, FACE, FIELDS, FIRST, LABEL, LAST, NEXT, NEXT_FREE, NONE, NUMBERS, PARENT, PATH, ROOT, SET_SIZE,
     SIZE, UPPER,
 };
-use crate::lent::Lent;
 use crate::marks::Marks;
 
 #[derive(Clone, Copy, Debug)]
@@ -121,11 +120,11 @@ impl Growth {
         }
     }
 
-    pub fn call(self, table: &mut Table, scratch: &Lent<u16>) -> Reply<Grown> {
+    pub fn call(self, table: &mut Table) -> Reply<Grown> {
         match self {
-            Growth::First => table.add_first(scratch),
-            Growth::Leaf(parent, label, face) => table.add_leaf(scratch, parent, label, face),
-            Growth::Root(x, opening) => table.add_root(scratch, x, opening),
+            Growth::First => table.add_first(),
+            Growth::Leaf(parent, label, face) => table.add_leaf(parent, label, face),
+            Growth::Root(x, opening) => table.add_root(x, opening),
         }
     }
 

@@ -1,6 +1,6 @@
 //! The plain list of documents 01 and 02: each node's parent, label and face, a root's parent being none; answers by walking from parent to parent.
 
-use crate::engine::{Reply, NONE};
+use crate::engine::{Reply, GROWTH_SCRATCH, NONE};
 
 #[derive(Clone)]
 pub struct Plain {
@@ -74,8 +74,18 @@ impl Plain {
         roots.into_iter().filter(|r| *r == root).count()
     }
 
+    /// A link's scratch has the capacity.
     fn fits(&self, scratch: usize) -> Reply<()> {
         if scratch == self.capacity {
+            Ok(())
+        } else {
+            Err(3)
+        }
+    }
+
+    /// Growth's is long enough, whatever the capacity.
+    fn fits_growth(scratch: usize) -> Reply<()> {
+        if scratch >= GROWTH_SCRATCH {
             Ok(())
         } else {
             Err(3)
@@ -123,12 +133,12 @@ impl Plain {
     }
 
     pub fn add_first(&mut self, scratch: usize) -> Reply<u16> {
-        self.fits(scratch)?;
+        Plain::fits_growth(scratch)?;
         self.add(NONE, 0, 0)
     }
 
     pub fn add_leaf(&mut self, scratch: usize, parent: u16, label: u16, face: u16) -> Reply<u16> {
-        self.fits(scratch)?;
+        Plain::fits_growth(scratch)?;
         self.knows(&[parent])?;
         Plain::has_label(label)?;
         Plain::has_face(face)?;
@@ -137,7 +147,7 @@ impl Plain {
 
     /// A new root over x, which takes the opening that is named, in front.
     pub fn add_root(&mut self, scratch: usize, x: u16, opening: Option<u16>) -> Reply<u16> {
-        self.fits(scratch)?;
+        Plain::fits_growth(scratch)?;
         self.knows(&[x])?;
         Plain::has_opening(opening)?;
         if !self.is_root(x) {
@@ -156,7 +166,7 @@ impl Plain {
         if self.count() != 0 {
             return self.add_root(scratch, self.root_of(0), opening);
         }
-        self.fits(scratch)?;
+        Plain::fits_growth(scratch)?;
         Plain::has_opening(opening)?;
         self.add_first(scratch)
     }

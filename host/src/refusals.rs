@@ -4,7 +4,7 @@
 use std::collections::BTreeMap;
 
 use crate::checks::{check, equal};
-use crate::engine::{Grown, Opening, Reply, Table, ENTRIES, FIELDS, NONE, NUMBERS, TREE};
+use crate::engine::{Grown, Opening, Reply, Table, ENTRIES, FIELDS, GROWTH_SCRATCH, NONE, NUMBERS, TREE};
 use crate::faces;
 use crate::lent::Lent;
 use crate::lists::{List, MIXES, SHAPES};
@@ -65,29 +65,29 @@ impl Call {
 
     /// What the engine says; the table stays as it is. Document 01's new root has only the form of bytes. A growth that is served leaves the labels, the
     /// faces and the tally that the rules give.
-    fn found(self, before: &Table, scratch: &Lent<u16>) -> Reply<Values> {
+    fn found(self, before: &Table) -> Reply<Values> {
         let mut table = before.clone();
         let (marks, found) = match self {
             Call::Question(x, y) => return table.query(x, y).map(Vec::from),
             Call::Alike(x, y) => return table.alike(x, y).map(|same| vec![same.into()]),
             Call::RootOfFirstTree(opening) => return trees::add_root_to(&table, opening).map(grown),
-            Call::First => (Marks::FIRST, table.add_first(scratch)),
-            Call::Leaf(parent, label, face) => (Marks::leaf(label, face), table.add_leaf(scratch, parent, label, face)),
-            Call::Root(x, opening) => (Marks::over(x, opening), table.add_root(scratch, x, opening)),
+            Call::First => (Marks::FIRST, table.add_first()),
+            Call::Leaf(parent, label, face) => (Marks::leaf(label, face), table.add_leaf(parent, label, face)),
+            Call::Root(x, opening) => (Marks::over(x, opening), table.add_root(x, opening)),
         };
         check(found.is_err() || marks.are_left(before, &table), || format!("labels, faces and tally after {self:?}"));
         found.map(grown)
     }
 
     /// What the naive reading says.
-    fn expected(self, reading: &mut Reading, scratch: usize) -> Reply<Values> {
+    fn expected(self, reading: &mut Reading) -> Reply<Values> {
         match self {
             Call::Question(x, y) => reading.question(x, y).map(Vec::from),
             Call::Alike(x, y) => reading.alike(x, y).map(|same| vec![same.into()]),
-            Call::First => reading.add_first(scratch).map(grown),
-            Call::Leaf(parent, label, face) => reading.add_leaf(scratch, parent, label, face).map(grown),
-            Call::Root(x, opening) => reading.add_root(scratch, x, opening.label()).map(grown),
-            Call::RootOfFirstTree(opening) => reading.add_root_first_tree(scratch, opening.label()).map(grown),
+            Call::First => reading.add_first().map(grown),
+            Call::Leaf(parent, label, face) => reading.add_leaf(parent, label, face).map(grown),
+            Call::Root(x, opening) => reading.add_root(x, opening.label()).map(grown),
+            Call::RootOfFirstTree(opening) => reading.add_root_first_tree(opening.label()).map(grown),
         }
     }
 }
@@ -201,25 +201,24 @@ fn scrambled(table: &Table, reading: &Reading, random: &mut Random) -> Table {
 }
 
 /// One call on a damaged table, and on one that differs from it only in rows that are not read.
-fn run(call: Call, good: &Table, table: &Table, met: &mut Met, random: &mut Random) {
-    let capacity = table.levels.part().len();
-    if matches!(call, Call::RootOfFirstTree(_)) && Reading::of(table).fits(capacity) != Ok(trees::CAPACITY) {
+fn run(call: Call, good: &Table, table: &mut Table, met: &mut Met, random: &mut Random) {
+    if matches!(call, Call::RootOfFirstTree(_)) && Reading::of(table).fits() != Ok(trees::CAPACITY) {
         return;
     }
-    let longer = random.one_in(60) && !matches!(call, Call::RootOfFirstTree(_));
-    let scratch = Lent::new(capacity + longer as usize, random.word() as u16);
+    let shorter = random.one_in(60) && !matches!(call, Call::RootOfFirstTree(_));
+    table.growth_scratch = Lent::new(GROWTH_SCRATCH - shorter as usize, random.word() as u16);
     let mut reading = Reading::of(table);
-    let expected = call.expected(&mut reading, scratch.part().len());
+    let expected = call.expected(&mut reading);
     let what = || format!("{call:?} on {} nodes, {:?}", table.count, reading.cause);
-    equal(call.found(table, &scratch), expected.clone(), what);
+    equal(call.found(table), expected.clone(), what);
     if random.one_in(6) && reading.capacity().is_ok() {
         let other = scrambled(table, &reading, random);
-        equal(call.found(&other, &scratch), expected.clone(), || format!("{}, with other rows that it does not read", what()));
+        equal(call.found(&other), expected.clone(), || format!("{}, with other rows that it does not read", what()));
     }
     if let Call::Question(..) = call {
         check(reading.rows.len() <= MOST, || format!("{} reads {} rows", what(), reading.rows.len()));
     }
-    met.add(call, &expected, reading.cause, call.expected(&mut Reading::of(good), scratch.part().len()));
+    met.add(call, &expected, reading.cause, call.expected(&mut Reading::of(good)));
 }
 
 pub fn damage() -> String {
@@ -229,10 +228,10 @@ pub fn damage() -> String {
         let good = &pool[random.below(POOL)];
         let calls = calls(good, &mut random);
         let mut reading = Reading::of(good);
-        let _ = calls[random.below(calls.len())].expected(&mut reading, good.levels.part().len());
-        let table = damaged(good, &reading.rows, &mut random);
+        let _ = calls[random.below(calls.len())].expected(&mut reading);
+        let mut table = damaged(good, &reading.rows, &mut random);
         asked += calls.len();
-        calls.into_iter().for_each(|call| run(call, good, &table, &mut met, &mut random));
+        calls.into_iter().for_each(|call| run(call, good, &mut table, &mut met, &mut random));
     }
     check(met.is_whole(), || format!("not all was met: {:?}, {:?}, {} answers changed", met.outcomes, met.causes, met.changed));
     format!(
@@ -256,19 +255,19 @@ pub fn undamaged() -> String {
         (0..random.below(capacity + capacity / 4 + 2)).for_each(|_| list.grow(&mut random));
         let (table, plain) = (&list.table, &list.plain);
         let node = |found: Reply<Grown>| found.map(|g| g.node);
-        equal(node(Reading::of(table).add_first(capacity)), plain.clone().add_first(capacity), || "first node".into());
+        equal(node(Reading::of(table).add_first()), plain.clone().add_first(GROWTH_SCRATCH), || "first node".into());
         for opening in OPENINGS {
-            let over = node(Reading::of(table).add_root_first_tree(capacity, opening));
-            equal(over, plain.clone().add_root_first_tree(capacity, opening), || format!("new root of the first tree, {opening:?}"));
+            let over = node(Reading::of(table).add_root_first_tree(opening));
+            equal(over, plain.clone().add_root_first_tree(GROWTH_SCRATCH, opening), || format!("new root of the first tree, {opening:?}"));
         }
         for x in 0..=table.count {
             for (label, face) in [(1, 0), (1, 1), (1, 2), (0, 2)] {
-                let leaf = node(Reading::of(table).add_leaf(capacity, x, label, face));
-                equal(leaf, plain.clone().add_leaf(capacity, x, label, face), || format!("leaf {label} {face} under {x}"));
+                let leaf = node(Reading::of(table).add_leaf(x, label, face));
+                equal(leaf, plain.clone().add_leaf(GROWTH_SCRATCH, x, label, face), || format!("leaf {label} {face} under {x}"));
             }
             for opening in OPENINGS {
-                let over = node(Reading::of(table).add_root(capacity, x, opening));
-                equal(over, plain.clone().add_root(capacity, x, opening), || format!("new root over {x}, {opening:?}"));
+                let over = node(Reading::of(table).add_root(x, opening));
+                equal(over, plain.clone().add_root(GROWTH_SCRATCH, x, opening), || format!("new root over {x}, {opening:?}"));
             }
             for y in 0..=table.count {
                 equal(Reading::of(table).question(x, y), plain.query(x, y), || format!("question {x} {y}"));

@@ -155,12 +155,12 @@ pub fn add_root_to(table: &Table, opening: Opening) -> Reply<Grown> {
 
 /// The new root of the table form over the first tree's, which a byte tree does not name; none where the table form has no such call, since what row 0
 /// records is no root of its own tree.
-fn add_root(table: &mut Table, scratch: &Lent<u16>, opening: Opening) -> Option<Reply<Grown>> {
+fn add_root(table: &mut Table, opening: Opening) -> Option<Reply<Grown>> {
     if opening.label().is_some_and(|label| !(1..=9999).contains(&label)) {
         return Some(Err(5));
     }
     if table.count == 0 {
-        return Some(table.add_first(scratch));
+        return Some(table.add_first());
     }
     if table.count as usize == CAPACITY {
         return Some(Err(2));
@@ -169,27 +169,27 @@ fn add_root(table: &mut Table, scratch: &Lent<u16>, opening: Opening) -> Option<
     if root >= table.count {
         return Some(Err(4));
     }
-    Some(table.add_root(scratch, root, opening)).filter(|reply| *reply != Err(10))
+    Some(table.add_root(root, opening)).filter(|reply| *reply != Err(10))
 }
 
 /// One growth and one question on both forms; the tree after it is the table after it.
 fn step(tree: &mut Tree, random: &mut Random) {
-    let (mut table, scratch) = (decode(tree.bytes.part()), Lent::new(CAPACITY, 0));
+    let mut table = decode(tree.bytes.part());
     let count = (table.count as usize).clamp(1, CAPACITY);
     let node = |random: &mut Random| if random.one_in(24) { random.word() as u16 } else { random.below(count) as u16 };
     let (parent, label) = (node(random), if random.one_in(24) { [0, 9999, 10000][random.below(3)] } else { 1 + random.below(3) as u16 });
     let (found, expected) = if table.count == 0 || random.one_in(10) {
         let opening = Opening::any(label, random);
         let found = tree.add_root(opening, GROWN);
-        let Some(expected) = add_root(&mut table, &scratch, opening) else {
-            let read = Reading::of(&table).add_root_first_tree(CAPACITY, opening.label());
+        let Some(expected) = add_root(&mut table, opening) else {
+            let read = Reading::of(&table).add_root_first_tree(opening.label());
             equal(found, read, || format!("new root of a damaged byte tree of {count} nodes"));
             return;
         };
         (found, expected)
     } else {
         let face = faces::any(random);
-        (tree.add_leaf(parent, label, face, GROWN), table.add_leaf(&scratch, parent, label, face))
+        (tree.add_leaf(parent, label, face, GROWN), table.add_leaf(parent, label, face))
     };
     equal(found, expected, || format!("growth of a byte tree of {count} nodes"));
     check(tree.bytes.part() == encode(&table), || format!("a byte tree after growth to {count} nodes"));

@@ -67,11 +67,11 @@ impl List {
     }
 
     /// Document 01's new root: over that of row 0's tree.
-    fn add_root_first_tree(&mut self, scratch: &Lent<u16>) -> Reply<Grown> {
+    fn add_root_first_tree(&mut self) -> Reply<Grown> {
         if self.table.count == 0 {
-            self.table.add_first(scratch)
+            self.table.add_first()
         } else {
-            self.table.add_root(scratch, self.table.root_of(0), Opening::NONE)
+            self.table.add_root(self.table.root_of(0), Opening::NONE)
         }
     }
 
@@ -96,23 +96,24 @@ impl List {
         let given = numbers(call);
         let arg = |i: usize| given[i] as u16;
         let mut scratch = Lent::new(*given.last().expect("a number") as usize, 7);
+        self.table.growth_scratch = scratch.clone();
         match &call[..1] {
             "F" => {
-                let found = self.table.add_first(&scratch);
+                let found = self.table.add_first();
                 self.grown(found, |stored| stored.add_first())
             }
             "L" => {
                 let face = face(&given);
-                let found = self.table.add_leaf(&scratch, arg(0), arg(1), face);
+                let found = self.table.add_leaf(arg(0), arg(1), face);
                 self.grown(found, |stored| stored.add_leaf(arg(0), arg(1), face))
             }
             "T" => {
                 let opening = opening(&given);
-                let found = self.table.add_root(&scratch, arg(0), opening);
+                let found = self.table.add_root(arg(0), opening);
                 self.grown(found, |stored| stored.add_root(arg(0), opening.label()))
             }
             "O" => {
-                let found = self.add_root_first_tree(&scratch);
+                let found = self.add_root_first_tree();
                 self.grown(found, |stored| stored.add_root_first_tree(None))
             }
             "H" => self.link(&mut scratch, arg(0), arg(1), arg(2)),

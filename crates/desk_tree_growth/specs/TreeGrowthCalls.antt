@@ -1,12 +1,13 @@
--- Byte trees of capacity 128 for a C host, the growths: each call is that of the table form on what the bytes hold, with a scratch that fits.
+-- Byte trees of capacity 128 for a C host, the growths: each call is that of the table form on what the bytes hold, with the shortest scratch that fits.
 -- Misfits of the tree's bytes and of the out slice are looked for first.
 use mathlib.Core.Bool.{Bool}
 use mathlib.Core.List.{List}
 use Prim.Native.Nat.{ℕ}
 use Rattle.table.specs.Parts.{Parts}
+use Rattle.table.specs.Scratch.{leastScratch}
 use Rattle.growth.specs.Outcome.{Outcome as GrowthOutcome, refusal as notGrown, node}
 use Rattle.growth.specs.Growth.{Result as Growth, addLeaf, addRoot}
-use Rattle.bytes_tree.specs.Tree.{treeRows, treeBytes, stateIn, partsIn, tallyIn, Held, encoded}
+use Rattle.bytes_tree.specs.Tree.{treeBytes, stateIn, partsIn, tallyIn, Held, encoded}
 use Rattle.replies.specs.Reply.{stateOf, Reply, misfit, onLength}
 use Rattle.byte_replies.specs.ByteReply.{grownBytes}
 
@@ -40,7 +41,7 @@ abbrev pub onLengths : List ℕ → List ℕ → Growth → Outcome
 onLengths b out g = onLength treeBytes b (onLength 6 out (afterGrowth b out g) (outcome b (misfit out))) (outcome b (misfit out))
 
 unfoldable pub leafTree : List ℕ → List ℕ → ℕ → ℕ → ℕ → Outcome
-leafTree b out parent label face = onLengths b out (addLeaf (partsIn b) (tallyIn b) treeRows (stateIn b) parent label face)
+leafTree b out parent label face = onLengths b out (addLeaf (partsIn b) (tallyIn b) leastScratch (stateIn b) parent label face)
 
 unfoldable pub rootTree : List ℕ → List ℕ → Bool → ℕ → Outcome
-rootTree b out named opening = onLengths b out (addRoot (partsIn b) (tallyIn b) treeRows (stateIn b) named opening)
+rootTree b out named opening = onLengths b out (addRoot (partsIn b) (tallyIn b) leastScratch (stateIn b) named opening)

@@ -14,10 +14,12 @@ use bytes_tree::tree::write_tree;
 use growth::Grown;
 use table::refusal::Refusal;
 use table::refusal::number_of;
+use table::scratch::LEAST_SCRATCH;
 ghost use mathlib.Core.Path.{_≡_};
 ghost use lib.ListN.{length};
 ghost use Rattle.table.specs.Parts.{partsOf};
 ghost use Rattle.table.specs.Capacity.{Fits};
+ghost use Rattle.table.specs.Scratch.{leastScratch};
 ghost use Rattle.tally.specs.Layout.{tallyLength};
 ghost use Rattle.bytes_tree.specs.Tree.{treeRows, treeBytes, stateIn, partsIn, tallyIn};
 ghost use Rattle.growth.specs.Outcome.{outcomeOf as growthOf};
@@ -63,7 +65,7 @@ pub extern "C" fn nca_add_leaf(
     out: &mut [u8],
 ) -> u16
     ensures answer { λ r. ⌜ outcome (now (tree .exit)) (reply r (now (out .exit))) ≡ leafTree (now (tree .entry)) (now (out .entry)) parent label face ⌝ }
-    ensures held { λ r. ⌜ (r ≡ 0 → GrowthHeld (now (tree .exit)) (addLeaf (partsIn (now (tree .entry))) (tallyIn (now (tree .entry))) treeRows (stateIn (now (tree .entry))) parent label face)) ⌝ }
+    ensures held { λ r. ⌜ (r ≡ 0 → GrowthHeld (now (tree .exit)) (addLeaf (partsIn (now (tree .entry))) (tallyIn (now (tree .entry))) leastScratch (stateIn (now (tree .entry))) parent label face)) ⌝ }
 {
     if tree.len() != BYTES {
         return number_of(Refusal::Misfit);
@@ -78,7 +80,7 @@ pub extern "C" fn nca_add_leaf(
     read_parts(tree, &mut fields, &mut numbers, &mut levels, &mut ancestors);
     let mut tally = [0u16; TALLY_COUNT];
     read_tally(tree, &mut tally);
-    let scratch = [0u16; ROWS];
+    let scratch = [0u16; LEAST_SCRATCH];
     let state = read_state(tree);
     let grown = growth::add_leaf(
         &mut fields,
@@ -101,7 +103,7 @@ pub extern "C" fn nca_add_leaf(
 #[no_mangle]
 pub extern "C" fn nca_add_root(tree: &mut [u8], named: u16, opening: u16, out: &mut [u8]) -> u16
     ensures answer { λ r. ⌜ outcome (now (tree .exit)) (reply r (now (out .exit))) ≡ rootTree (now (tree .entry)) (now (out .entry)) (isNamed named) opening ⌝ }
-    ensures held { λ r. ⌜ (r ≡ 0 → GrowthHeld (now (tree .exit)) (addRoot (partsIn (now (tree .entry))) (tallyIn (now (tree .entry))) treeRows (stateIn (now (tree .entry))) (isNamed named) opening)) ⌝ }
+    ensures held { λ r. ⌜ (r ≡ 0 → GrowthHeld (now (tree .exit)) (addRoot (partsIn (now (tree .entry))) (tallyIn (now (tree .entry))) leastScratch (stateIn (now (tree .entry))) (isNamed named) opening)) ⌝ }
 {
     if tree.len() != BYTES {
         return number_of(Refusal::Misfit);
@@ -116,7 +118,7 @@ pub extern "C" fn nca_add_root(tree: &mut [u8], named: u16, opening: u16, out: &
     read_parts(tree, &mut fields, &mut numbers, &mut levels, &mut ancestors);
     let mut tally = [0u16; TALLY_COUNT];
     read_tally(tree, &mut tally);
-    let scratch = [0u16; ROWS];
+    let scratch = [0u16; LEAST_SCRATCH];
     let state = read_state(tree);
     let grown = growth::add_root(
         &mut fields,

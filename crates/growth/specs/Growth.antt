@@ -8,6 +8,7 @@ use Rattle.table.specs.declared.refusal.Refusal.the-variants.{Misfit, Corrupt}
 use Rattle.table.specs.declared.state.State.{State}
 use Rattle.table.specs.Parts.{Parts, partsOf, withLevel}
 use Rattle.table.specs.Capacity.{onFit}
+use Rattle.table.specs.Scratch.{fitsGrowth}
 use Rattle.tally.specs.Fit.{capacityWith}
 use Rattle.tally.specs.Count.{hasRoom, counted}
 use Rattle.growth_plan.specs.declared.row.Plan.{Plan}
@@ -54,22 +55,26 @@ grownAt t w c (Grow g) = withRoom t w c (g .marks .label) (served w g (planStore
 grownAt t w c (Start n) = withRoom t w c 0 (started t w n)
 grownAt t w c (Refuse r) = result t w (refused r)
 
--- in parts and a tally that fit
-unfoldable pub grownBy : Parts → List ℕ → Planned → Result
-grownBy t w p = onFit (capacityWith t w) (λ c. grownAt t w c p) (result t w (refused Misfit))
+-- refused, since what was lent does not fit
+abbrev pub misfit : Parts → List ℕ → Result
+misfit t w = result t w (refused Misfit)
 
--- a first node; of the scratch only its length counts
+-- with a scratch of this length, in parts and a tally that fit; of the scratch nothing but its length counts
+unfoldable pub grownBy : Parts → List ℕ → ℕ → Planned → Result
+grownBy t w scratch p = pick (fitsGrowth scratch) (onFit (capacityWith t w) (λ c. grownAt t w c p) (misfit t w)) (misfit t w)
+
+-- a first node
 unfoldable pub addFirst : Parts → List ℕ → ℕ → State → Result
-addFirst t w scratch s = grownBy t w (firstPlan t scratch s)
+addFirst t w scratch s = grownBy t w scratch (firstPlan t s)
 
 -- a new leaf of this label and face under this parent
 unfoldable pub addLeaf : Parts → List ℕ → ℕ → State → ℕ → ℕ → ℕ → Result
-addLeaf t w scratch s parent label face = grownBy t w (leafPlan t scratch s parent label face)
+addLeaf t w scratch s parent label face = grownBy t w scratch (leafPlan t s parent label face)
 
 -- a new root over x, which takes the opening, where one is named (02: "A top shall name the opening, which becomes the old source's panel")
 unfoldable pub addOver : Parts → List ℕ → ℕ → State → ℕ → Bool → ℕ → Result
-addOver t w scratch s x named opening = grownBy t w (overPlan t scratch s x named opening)
+addOver t w scratch s x named opening = grownBy t w scratch (overPlan t s x named opening)
 
 -- a new root over that of the first tree; the first node where there is none
 unfoldable pub addRoot : Parts → List ℕ → ℕ → State → Bool → ℕ → Result
-addRoot t w scratch s named opening = grownBy t w (rootPlan t scratch s named opening)
+addRoot t w scratch s named opening = grownBy t w scratch (rootPlan t s named opening)

@@ -8,6 +8,7 @@ use native.Mathlib.Omega.{arith}
 use lib.IntN.{pos}
 use lib.ListN.{length-set}
 use lib.Seq.{getD-set-same, getD-set-other}
+use borrow.Author.Tests.{le-leb}
 use Rattle.table.specs.declared.state.State.{State}
 use Rattle.laws.specs.Test.{says-true}
 use Rattle.layer.specs.Layout.{fieldStride, depthPlace}
@@ -16,6 +17,7 @@ use Rattle.table.specs.Parts.{Parts, partsOf, withLevel}
 use Rattle.table.specs.Capacity.{Fits}
 use Rattle.table.specs.Table.{Table, tableOf}
 use Rattle.table.specs.Rules.{Rules, numbered}
+use Rattle.table.specs.Scratch.{leastScratch}
 use Rattle.tally.specs.Tally.{TallyOf}
 use Rattle.tally.specs.FitLaws.{with-told}
 use Rattle.tally.specs.Count.{counted}
@@ -111,12 +113,12 @@ module _ {c : ℕ} (p : Parts) (s : State) (fit : Fits c p) (r : Rules c (tableO
         roots = λ x l. start-frame x (omega arith) (λ e. omega arith) .sameRoot;
       }
 
-  module _ (w : List ℕ) (k : TallyOf t w) where
-    start-is : grownBy p w (Start n) ≡ result left (counted w 0) (nodeAt n 1 n)
+  module _ (w : List ℕ) (k : TallyOf t w) (scratch : ℕ) (long : leastScratch ≤ scratch) where
+    start-is : grownBy p w scratch (Start n) ≡ result left (counted w 0) (nodeAt n 1 n)
     unfolding grownBy grownAt started
-    start-is = rw (with-told p w fit (k .long), tallied-room k {k = 0} room (omega arith))
+    start-is = rw (le-leb leastScratch scratch long, with-told p w fit (k .long), tallied-room k {k = 0} room (omega arith))
 
-    start-exactly : StartedExactly c p s (grownBy p w (Start n))
+    start-exactly : StartedExactly c p s (grownBy p w scratch (Start n))
     start-exactly =
         let f = lone-long (layerParts p) (long-parts fit) n room in
         let plainly = start-plain r (fit .most) room started-is in
@@ -139,15 +141,14 @@ module _ {c : ℕ} (p : Parts) (s : State) (fit : Fits c p) (r : Rules c (tableO
         }
 
     -- the calls
-    module _ (scratch : ℕ) (long : scratch ≡ c) where
-      pub first-exact : StartedExactly c p s (addFirst p w scratch s)
-      unfolding addFirst
-      first-exact = rw (← first-row p scratch s c (capacity-is p fit) long (λ e. omega arith) (standing-is p s r)) start-exactly
+    pub first-exact : StartedExactly c p s (addFirst p w scratch s)
+    unfolding addFirst
+    first-exact = rw (← first-row p s c (capacity-is p fit) (λ e. omega arith) (standing-is p s r)) start-exactly
 
-      -- 01's new root where there is no node yet: an opening is not used
-      pub root-first-exact : (named : Bool) (opening : ℕ) → Opens named opening → s .count ≡ 0 → StartedExactly c p s (addRoot p w scratch s named opening)
-      unfolding addRoot
-      root-first-exact named opening through z =
-          let e : Start n ≡ rootPlan p scratch s named opening = ap Start z
-          ∙ root-first p scratch s named opening c (capacity-is p fit) long (says-true (says-opening named opening) through) (λ e. omega arith) (standing-is p s r) z in
-          rw (← e) start-exactly
+    -- 01's new root where there is no node yet: an opening is not used
+    pub root-first-exact : (named : Bool) (opening : ℕ) → Opens named opening → s .count ≡ 0 → StartedExactly c p s (addRoot p w scratch s named opening)
+    unfolding addRoot
+    root-first-exact named opening through z =
+        let e : Start n ≡ rootPlan p s named opening = ap Start z
+        ∙ root-first p s named opening c (capacity-is p fit) (says-true (says-opening named opening) through) (λ e. omega arith) (standing-is p s r) z in
+        rw (← e) start-exactly

@@ -6,6 +6,7 @@ use mathlib.Core.Logic.{_≢_}
 use mathlib.Core.List.{List}
 use Prim.Native.Nat.{ℕ, suc, _+_, _*_, _≤_, _<_}
 use native.Mathlib.Omega.{arith}
+use borrow.Author.Tests.{le-leb}
 use Rattle.laws.specs.Test.{says-true}
 use Rattle.tree_laws.specs.Ancestor.{none}
 use Rattle.table.specs.declared.capacity.Fit.the-variants.{Capacity}
@@ -21,6 +22,7 @@ use Rattle.table.specs.Rules.{labelLimit, faceLimit}
 use Rattle.layer.specs.StoredTree.{first}
 use Rattle.table.specs.PlainTree.{root as rootIn}
 use Rattle.table.specs.Rules.{Rules, numbered}
+use Rattle.table.specs.Scratch.{leastScratch}
 use Rattle.tally.specs.Tally.{TallyOf}
 use Rattle.tally.specs.FitLaws.{with-told}
 use Rattle.tally.specs.Count.{hasRoom, counted}
@@ -105,7 +107,7 @@ rooted p s fit r x l e =
 -- From the plan to the outcome
 
 module _ {c : ℕ} (p : Parts) (w : List ℕ) (s : State) (fit : Fits c p) (r : Rules c (tableOf p (s .count))) (k : TallyOf (tableOf p (s .count)) w)
-    (room : s .count < c) (g : Growth) (named : Named (tableOf p (s .count)) g) where
+    (scratch : ℕ) (long : leastScratch ≤ scratch) (room : s .count < c) (g : Growth) (named : Named (tableOf p (s .count)) g) where
   abbrev t : Table
   t = tableOf p (s .count)
 
@@ -122,9 +124,9 @@ module _ {c : ℕ} (p : Parts) (w : List ℕ) (s : State) (fit : Fits c p) (r : 
   free : hasRoom w c (labelGiven g) ≡ true
   free = tallied-room k room (given-most named)
 
-  outcome-is : grownBy p w (Grow (plan fit (site p (s .count) fit r room g named) (marks t g))) ≡ left
+  outcome-is : grownBy p w scratch (Grow (plan fit (site p (s .count) fit r room g named) (marks t g))) ≡ left
   unfolding grownBy grownAt served
-  outcome-is = rw (with-told p w fit (k .long), free) (ap (λ (x : Stored). result (x .parts) (counted w (labelGiven g)) (nodeAt (s .count) (x .given) h)) (plan-stored fit (site p (s .count) fit r room g named) (marks t g)))
+  outcome-is = rw (le-leb leastScratch scratch long, with-told p w fit (k .long), free) (ap (λ (x : Stored). result (x .parts) (counted w (labelGiven g)) (nodeAt (s .count) (x .given) h)) (plan-stored fit (site p (s .count) fit r room g named) (marks t g)))
 
   left-exactly : GrownExactly c p s g left
   left-exactly =
@@ -146,21 +148,21 @@ module _ {c : ℕ} (p : Parts) (w : List ℕ) (s : State) (fit : Fits c p) (r : 
         pays = growth-pays (numbered r (fit .most)) b;
       }
 
-  row-exactly : (q : Planned) → q ≡ Grow (plan fit (site p (s .count) fit r room g named) (marks t g)) → GrownExactly c p s g (grownBy p w q)
+  row-exactly : (q : Planned) → q ≡ Grow (plan fit (site p (s .count) fit r room g named) (marks t g)) → GrownExactly c p s g (grownBy p w scratch q)
   row-exactly q e = rw (e, outcome-is) left-exactly
 
 -- The three calls
 
 module _ {c : ℕ} (p : Parts) (w : List ℕ) (s : State) (fit : Fits c p) (r : Rules c (tableOf p (s .count))) (k : TallyOf (tableOf p (s .count)) w)
-    (scratch : ℕ) (same : scratch ≡ c) (room : s .count < c) where
+    (scratch : ℕ) (long : leastScratch ≤ scratch) (room : s .count < c) where
   -- a leaf
   pub leaf-exact : (v label face : ℕ) → v < s .count → 1 ≤ label → label ≤ labelLimit → face ≤ faceLimit
       → GrownExactly c p s (leaf v label face) (addLeaf p w scratch s v label face)
   unfolding addLeaf
   leaf-exact v label face l i j m =
       let g : Named (tableOf p (s .count)) (leaf v label face) = named-leaf l i j m in
-      row-exactly p w s fit r k room (leaf v label face) g (leafPlan p scratch s v label face)
-      (sym (leaf-row p scratch s v label face c (capacity-is p fit) same l (says-true (says-label label) (i, j)) (says-true (says-face face) m) (λ e. omega arith)
+      row-exactly p w s fit r k scratch long room (leaf v label face) g (leafPlan p s v label face)
+      (sym (leaf-row p s v label face c (capacity-is p fit) l (says-true (says-label label) (i, j)) (says-true (says-face face) m) (λ e. omega arith)
       (standing-is p s r) (rooted p s fit r v l) _ (sym (level-planned p (s .count) fit r room (leaf v label face) g _ (level-small r (fit .most) v l))))
       ∙ grows p (s .count) fit r room (leaf v label face) g)
 
@@ -181,8 +183,8 @@ module _ {c : ℕ} (p : Parts) (w : List ℕ) (s : State) (fit : Fits c p) (r : 
       unfolding addOver
       over-exact =
           let e : rootAt (p .fields) (p .ancestors) (s .count) x ≡ x = root-is p (s .count) r (fit .most) x l ∙ own in
-          row-exactly p w s fit r k room over (named-root l own through) (overPlan p scratch s x named opening)
-          (sym (over-row p scratch s x named opening c (capacity-is p fit) same l (says-true (says-opening named opening) through) (standing-is p s r) (rooted p s fit r x l) e (λ e. omega arith))
+          row-exactly p w s fit r k scratch long room over (named-root l own through) (overPlan p s x named opening)
+          (sym (over-row p s x named opening c (capacity-is p fit) l (says-true (says-opening named opening) through) (standing-is p s r) (rooted p s fit r x l) e (λ e. omega arith))
           ∙ ap (λ (f : ℕ). rootOver p s f x named opening) (tree-is p (s .count) r (fit .most) (in-tree (numbered r (fit .most)) x l)) ∙ above)
 
     -- a new root over that of the first tree, where there is one
@@ -193,8 +195,8 @@ module _ {c : ℕ} (p : Parts) (w : List ℕ) (s : State) (fit : Fits c p) (r : 
         let i : InTree (t .layer) (first (t .layer) 0) 0 = in-tree (numbered r (fit .most)) 0 z in
         let j : InTree (t .layer) (first (t .layer) 0) (rootIn t 0) = root-in r (fit .most) i in
         let e : first (t .layer) (rootIn t 0) ≡ first (t .layer) 0 = first-is (numbered r (fit .most)) j in
-        row-exactly p w s fit r k room (root (rootIn t 0) named opening) (named-root (j .inUse) (ap (t .root) e) through) (rootPlan p scratch s named opening)
-        (sym (root-row p scratch s named opening c (capacity-is p fit) same (says-true (says-opening named opening) through) (λ e. omega arith) (standing-is p s r) (λ e. omega arith) (rooted p s fit r 0 z))
+        row-exactly p w s fit r k scratch long room (root (rootIn t 0) named opening) (named-root (j .inUse) (ap (t .root) e) through) (rootPlan p s named opening)
+        (sym (root-row p s named opening c (capacity-is p fit) (says-true (says-opening named opening) through) (λ e. omega arith) (standing-is p s r) (λ e. omega arith) (rooted p s fit r 0 z))
         ∙ ap (λ (f : ℕ). rootOver p s f (rootAt (p .fields) (p .ancestors) (s .count) 0) named opening) (tree-is p (s .count) r (fit .most) i ∙ sym e)
         ∙ ap (λ (x : ℕ). rootOver p s (first (t .layer) (rootIn t 0)) x named opening) (root-is p (s .count) r (fit .most) 0 z)
         ∙ above (rootIn t 0) (j .inUse) (ap (t .root) e))

@@ -1,5 +1,5 @@
 -- What a growth decides before its first store: the refusals in their order (first node 3, 2, 4; leaf 3, 1, 5, 13, 2, 4; new root over x 3, 1, 5, 4, 10, 2,
--- 4; 01's new root 3, 5, 2, 4), then the plan of a row that joins.
+-- 4; 01's new root 3, 5, 2, 4), then the plan of a row that joins. Whether the tally and the scratch fit, which is 3 too, is looked at in `growth`.
 use mathlib.Core.Bool.{Bool, true, false, _&&_, not}
 use Prim.Native.Nat.{ℕ}
 use lib.Dec.{eqb, leb, ltb}
@@ -35,10 +35,9 @@ isOpening true opening = isLabel opening
 isOpening false opening = true
 
 -- a leaf in parts that fit the capacity c; the root of the parent's tree is looked at, 01's "source not below the count"
-unfoldable pub leafWithin : Parts → ℕ → ℕ → State → ℕ → ℕ → ℕ → Planned
-leafWithin t c scratch s parent label face =
-    provided (eqb scratch c) Misfit
-    (provided (ltb parent (s .count)) UnknownNode
+unfoldable pub leafWithin : Parts → ℕ → State → ℕ → ℕ → ℕ → Planned
+leafWithin t c s parent label face =
+    provided (ltb parent (s .count)) UnknownNode
     (provided (isLabel label) BadLabel
     (provided (isFace face) BadFace
     (provided (not (eqb (s .count) c)) Full
@@ -46,22 +45,21 @@ leafWithin t c scratch s parent label face =
     (provided (not (eqb (rootAt (t .fields) (t .ancestors) (s .count) parent) none)) Corrupt
     (onLevel (levelFrom (levelAt (t .levels) parent) (levelAt (t .levels) parent +ℤ pos 1))
     (λ level. plannedRow (t .fields) (t .numbers) (t .ancestors) (s .count) (s .count) parent (marksOf level (s .count) label face none))
-    (Refuse Corrupt))))))))
+    (Refuse Corrupt)))))))
 
--- a leaf of this label and face under this parent, with a scratch of this length
-unfoldable pub leafPlan : Parts → ℕ → State → ℕ → ℕ → ℕ → Planned
-leafPlan t scratch s parent label face = onFit (capacityOf t) (λ c. leafWithin t c scratch s parent label face) (Refuse Misfit)
+-- a leaf of this label and face under this parent
+unfoldable pub leafPlan : Parts → State → ℕ → ℕ → ℕ → Planned
+leafPlan t s parent label face = onFit (capacityOf t) (λ c. leafWithin t c s parent label face) (Refuse Misfit)
 
 -- a first node in parts that fit the capacity c
-unfoldable pub firstWithin : ℕ → ℕ → State → Planned
-firstWithin c scratch s =
-    provided (eqb scratch c) Misfit
-    (provided (not (eqb (s .count) c)) Full
+unfoldable pub firstWithin : ℕ → State → Planned
+firstWithin c s =
+    provided (not (eqb (s .count) c)) Full
     (provided (isStanding c s) Corrupt
-    (Start (s .count))))
+    (Start (s .count)))
 
-unfoldable pub firstPlan : Parts → ℕ → State → Planned
-firstPlan t scratch s = onFit (capacityOf t) (λ c. firstWithin c scratch s) (Refuse Misfit)
+unfoldable pub firstPlan : Parts → State → Planned
+firstPlan t s = onFit (capacityOf t) (λ c. firstWithin c s) (Refuse Misfit)
 
 -- a new root over r, the root of the tree whose first row is tree: where an opening is named, r takes it as its label, else the new row takes label 0; the
 -- face is the front (02: "tag 1 means front, as do sources, openings and doors")
@@ -73,31 +71,29 @@ rootOver t s tree r named opening =
     (Refuse Corrupt)
 
 -- a new root over x in parts that fit the capacity c
-unfoldable pub overWithin : Parts → ℕ → ℕ → State → ℕ → Bool → ℕ → Planned
-overWithin t c scratch s x named opening =
-    provided (eqb scratch c) Misfit
-    (provided (ltb x (s .count)) UnknownNode
+unfoldable pub overWithin : Parts → ℕ → State → ℕ → Bool → ℕ → Planned
+overWithin t c s x named opening =
+    provided (ltb x (s .count)) UnknownNode
     (provided (isOpening named opening) BadLabel
     (provided (isStanding c s) Corrupt
     (provided (not (eqb (rootAt (t .fields) (t .ancestors) (s .count) x) none)) Corrupt
     (provided (eqb (rootAt (t .fields) (t .ancestors) (s .count) x) x) NotRoot
     (provided (not (eqb (s .count) c)) Full
-    (rootOver t s (treeAt (t .ancestors) (s .count) x) x named opening)))))))
+    (rootOver t s (treeAt (t .ancestors) (s .count) x) x named opening))))))
 
-unfoldable pub overPlan : Parts → ℕ → State → ℕ → Bool → ℕ → Planned
-overPlan t scratch s x named opening = onFit (capacityOf t) (λ c. overWithin t c scratch s x named opening) (Refuse Misfit)
+unfoldable pub overPlan : Parts → State → ℕ → Bool → ℕ → Planned
+overPlan t s x named opening = onFit (capacityOf t) (λ c. overWithin t c s x named opening) (Refuse Misfit)
 
 -- a first node where there is none, else a new root over the root of the first tree, that of row 0, in parts that fit the capacity c (01's; 02, "a
 -- log and a byte tree keep to the first tree"; "On an empty tree a named opening is checked and otherwise unused")
-unfoldable pub rootWithin : Parts → ℕ → ℕ → State → Bool → ℕ → Planned
-rootWithin t c scratch s named opening =
-    provided (eqb scratch c) Misfit
-    (provided (isOpening named opening) BadLabel
+unfoldable pub rootWithin : Parts → ℕ → State → Bool → ℕ → Planned
+rootWithin t c s named opening =
+    provided (isOpening named opening) BadLabel
     (provided (not (eqb (s .count) c)) Full
     (provided (isStanding c s) Corrupt
     (pick (eqb (s .count) 0) (Start 0)
     (provided (not (eqb (rootAt (t .fields) (t .ancestors) (s .count) 0) none)) Corrupt
-    (rootOver t s (treeAt (t .ancestors) (s .count) 0) (rootAt (t .fields) (t .ancestors) (s .count) 0) named opening))))))
+    (rootOver t s (treeAt (t .ancestors) (s .count) 0) (rootAt (t .fields) (t .ancestors) (s .count) 0) named opening)))))
 
-unfoldable pub rootPlan : Parts → ℕ → State → Bool → ℕ → Planned
-rootPlan t scratch s named opening = onFit (capacityOf t) (λ c. rootWithin t c scratch s named opening) (Refuse Misfit)
+unfoldable pub rootPlan : Parts → State → Bool → ℕ → Planned
+rootPlan t s named opening = onFit (capacityOf t) (λ c. rootWithin t c s named opening) (Refuse Misfit)

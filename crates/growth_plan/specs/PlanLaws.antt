@@ -56,81 +56,71 @@ root-read f a n x e d = d ∙ ap (rootOf f n) e
 
 -- a leaf ------------------------------------------------------------------------------
 
-module _ (t : Parts) (scratch : ℕ) (s : State) (p label face : ℕ) where
-  pub leaf-misfit : NoFit ≡ capacityOf t → Refuse Misfit ≡ leafPlan t scratch s p label face
+module _ (t : Parts) (s : State) (p label face : ℕ) where
+  pub leaf-misfit : NoFit ≡ capacityOf t → Refuse Misfit ≡ leafPlan t s p label face
   unfolding leafPlan
   leaf-misfit e = rw (← e)
 
   module _ (c : ℕ) (fit : Capacity c ≡ capacityOf t) where
-    pub leaf-scratch : scratch ≢ c → Refuse Misfit ≡ leafPlan t scratch s p label face
+    pub leaf-unknown : s .count ≤ p → Refuse UnknownNode ≡ leafPlan t s p label face
     unfolding leafPlan leafWithin
-    leaf-scratch a = rw (← fit, ne-eqb scratch c a)
+    leaf-unknown b = rw (← fit, le-ltb p (s .count) b)
 
-    module _ (a : scratch ≡ c) where
-      pub leaf-unknown : s .count ≤ p → Refuse UnknownNode ≡ leafPlan t scratch s p label face
+    module _ (b : p < s .count) where
+      pub leaf-label : isLabel label ≡ false → Refuse BadLabel ≡ leafPlan t s p label face
       unfolding leafPlan leafWithin
-      leaf-unknown b = rw (← fit, eq-eqb scratch c a, le-ltb p (s .count) b)
+      leaf-label d = rw (← fit, lt-ltb p (s .count) b, d)
 
-      module _ (b : p < s .count) where
-        pub leaf-label : isLabel label ≡ false → Refuse BadLabel ≡ leafPlan t scratch s p label face
+      module _ (d : isLabel label ≡ true) where
+        pub leaf-face : isFace face ≡ false → Refuse BadFace ≡ leafPlan t s p label face
         unfolding leafPlan leafWithin
-        leaf-label d = rw (← fit, eq-eqb scratch c a, lt-ltb p (s .count) b, d)
+        leaf-face f = rw (← fit, lt-ltb p (s .count) b, d, f)
 
-        module _ (d : isLabel label ≡ true) where
-          pub leaf-face : isFace face ≡ false → Refuse BadFace ≡ leafPlan t scratch s p label face
+        module _ (f : isFace face ≡ true) where
+          pub leaf-full : s .count ≡ c → Refuse Full ≡ leafPlan t s p label face
           unfolding leafPlan leafWithin
-          leaf-face f = rw (← fit, eq-eqb scratch c a, lt-ltb p (s .count) b, d, f)
+          leaf-full e = rw (← fit, lt-ltb p (s .count) b, d, f, eq-eqb (s .count) c e)
 
-          module _ (f : isFace face ≡ true) where
-            pub leaf-full : s .count ≡ c → Refuse Full ≡ leafPlan t scratch s p label face
+          module _ (e : s .count ≢ c) where
+            pub leaf-fallen : isStanding c s ≡ false → Refuse Corrupt ≡ leafPlan t s p label face
             unfolding leafPlan leafWithin
-            leaf-full e = rw (← fit, eq-eqb scratch c a, lt-ltb p (s .count) b, d, f, eq-eqb (s .count) c e)
+            leaf-fallen g = rw (← fit, lt-ltb p (s .count) b, d, f, ne-eqb (s .count) c e, g)
 
-            module _ (e : s .count ≢ c) where
-              pub leaf-fallen : isStanding c s ≡ false → Refuse Corrupt ≡ leafPlan t scratch s p label face
+            module _ (g : isStanding c s ≡ true) where
+              pub leaf-lost : rootAt (t .fields) (t .ancestors) (s .count) p ≡ none → Refuse Corrupt ≡ leafPlan t s p label face
               unfolding leafPlan leafWithin
-              leaf-fallen g = rw (← fit, eq-eqb scratch c a, lt-ltb p (s .count) b, d, f, ne-eqb (s .count) c e, g)
+              leaf-lost r = rw (← fit, lt-ltb p (s .count) b, d, f, ne-eqb (s .count) c e, g, eq-eqb (rootAt (t .fields) (t .ancestors) (s .count) p) none r)
 
-              module _ (g : isStanding c s ≡ true) where
-                pub leaf-lost : rootAt (t .fields) (t .ancestors) (s .count) p ≡ none → Refuse Corrupt ≡ leafPlan t scratch s p label face
+              module _ (r : rootAt (t .fields) (t .ancestors) (s .count) p ≢ none) where
+                pub leaf-out : Out ≡ levelFrom (levelAt (t .levels) p) (levelAt (t .levels) p +ℤ pos 1) → Refuse Corrupt ≡ leafPlan t s p label face
                 unfolding leafPlan leafWithin
-                leaf-lost r = rw (← fit, eq-eqb scratch c a, lt-ltb p (s .count) b, d, f, ne-eqb (s .count) c e, g, eq-eqb (rootAt (t .fields) (t .ancestors) (s .count) p) none r)
+                leaf-out h = rw (← fit, lt-ltb p (s .count) b, d, f, ne-eqb (s .count) c e, g, ne-eqb (rootAt (t .fields) (t .ancestors) (s .count) p) none r, ← h)
 
-                module _ (r : rootAt (t .fields) (t .ancestors) (s .count) p ≢ none) where
-                  pub leaf-out : Out ≡ levelFrom (levelAt (t .levels) p) (levelAt (t .levels) p +ℤ pos 1) → Refuse Corrupt ≡ leafPlan t scratch s p label face
-                  unfolding leafPlan leafWithin
-                  leaf-out h = rw (← fit, eq-eqb scratch c a, lt-ltb p (s .count) b, d, f, ne-eqb (s .count) c e, g, ne-eqb (rootAt (t .fields) (t .ancestors) (s .count) p) none r, ← h)
-
-                  pub leaf-row : (z : ℤ) → At z ≡ levelFrom (levelAt (t .levels) p) (levelAt (t .levels) p +ℤ pos 1)
-                      → plannedRow (t .fields) (t .numbers) (t .ancestors) (s .count) (s .count) p (marksOf z (s .count) label face none) ≡ leafPlan t scratch s p label face
-                  unfolding leafPlan leafWithin
-                  leaf-row z h = rw (← fit, eq-eqb scratch c a, lt-ltb p (s .count) b, d, f, ne-eqb (s .count) c e, g, ne-eqb (rootAt (t .fields) (t .ancestors) (s .count) p) none r, ← h)
+                pub leaf-row : (z : ℤ) → At z ≡ levelFrom (levelAt (t .levels) p) (levelAt (t .levels) p +ℤ pos 1)
+                    → plannedRow (t .fields) (t .numbers) (t .ancestors) (s .count) (s .count) p (marksOf z (s .count) label face none) ≡ leafPlan t s p label face
+                unfolding leafPlan leafWithin
+                leaf-row z h = rw (← fit, lt-ltb p (s .count) b, d, f, ne-eqb (s .count) c e, g, ne-eqb (rootAt (t .fields) (t .ancestors) (s .count) p) none r, ← h)
 
 -- a first node ------------------------------------------------------------------------
 
-module _ (t : Parts) (scratch : ℕ) (s : State) where
-  pub first-misfit : NoFit ≡ capacityOf t → Refuse Misfit ≡ firstPlan t scratch s
+module _ (t : Parts) (s : State) where
+  pub first-misfit : NoFit ≡ capacityOf t → Refuse Misfit ≡ firstPlan t s
   unfolding firstPlan
   first-misfit e = rw (← e)
 
   module _ (c : ℕ) (fit : Capacity c ≡ capacityOf t) where
-    pub first-scratch : scratch ≢ c → Refuse Misfit ≡ firstPlan t scratch s
+    pub first-full : s .count ≡ c → Refuse Full ≡ firstPlan t s
     unfolding firstPlan firstWithin
-    first-scratch a = rw (← fit, ne-eqb scratch c a)
+    first-full e = rw (← fit, eq-eqb (s .count) c e)
 
-    module _ (a : scratch ≡ c) where
-      pub first-full : s .count ≡ c → Refuse Full ≡ firstPlan t scratch s
+    module _ (e : s .count ≢ c) where
+      pub first-fallen : isStanding c s ≡ false → Refuse Corrupt ≡ firstPlan t s
       unfolding firstPlan firstWithin
-      first-full e = rw (← fit, eq-eqb scratch c a, eq-eqb (s .count) c e)
+      first-fallen g = rw (← fit, ne-eqb (s .count) c e, g)
 
-      module _ (e : s .count ≢ c) where
-        pub first-fallen : isStanding c s ≡ false → Refuse Corrupt ≡ firstPlan t scratch s
-        unfolding firstPlan firstWithin
-        first-fallen g = rw (← fit, eq-eqb scratch c a, ne-eqb (s .count) c e, g)
-
-        pub first-row : isStanding c s ≡ true → Start (s .count) ≡ firstPlan t scratch s
-        unfolding firstPlan firstWithin
-        first-row g = rw (← fit, eq-eqb scratch c a, ne-eqb (s .count) c e, g)
+      pub first-row : isStanding c s ≡ true → Start (s .count) ≡ firstPlan t s
+      unfolding firstPlan firstWithin
+      first-row g = rw (← fit, ne-eqb (s .count) c e, g)
 
 -- a new root --------------------------------------------------------------------------
 
@@ -146,87 +136,77 @@ module _ (t : Parts) (s : State) (tree r : ℕ) (named : Bool) (opening : ℕ) w
   above-row y h = rw (← h)
 
 -- over x
-module _ (t : Parts) (scratch : ℕ) (s : State) (x : ℕ) (named : Bool) (opening : ℕ) where
-  pub over-misfit : NoFit ≡ capacityOf t → Refuse Misfit ≡ overPlan t scratch s x named opening
+module _ (t : Parts) (s : State) (x : ℕ) (named : Bool) (opening : ℕ) where
+  pub over-misfit : NoFit ≡ capacityOf t → Refuse Misfit ≡ overPlan t s x named opening
   unfolding overPlan
   over-misfit e = rw (← e)
 
   module _ (c : ℕ) (fit : Capacity c ≡ capacityOf t) where
-    pub over-scratch : scratch ≢ c → Refuse Misfit ≡ overPlan t scratch s x named opening
+    pub over-unknown : s .count ≤ x → Refuse UnknownNode ≡ overPlan t s x named opening
     unfolding overPlan overWithin
-    over-scratch a = rw (← fit, ne-eqb scratch c a)
+    over-unknown b = rw (← fit, le-ltb x (s .count) b)
 
-    module _ (a : scratch ≡ c) where
-      pub over-unknown : s .count ≤ x → Refuse UnknownNode ≡ overPlan t scratch s x named opening
+    module _ (b : x < s .count) where
+      pub over-label : isOpening named opening ≡ false → Refuse BadLabel ≡ overPlan t s x named opening
       unfolding overPlan overWithin
-      over-unknown b = rw (← fit, eq-eqb scratch c a, le-ltb x (s .count) b)
+      over-label d = rw (← fit, lt-ltb x (s .count) b, d)
 
-      module _ (b : x < s .count) where
-        pub over-label : isOpening named opening ≡ false → Refuse BadLabel ≡ overPlan t scratch s x named opening
+      module _ (d : isOpening named opening ≡ true) where
+        pub over-fallen : isStanding c s ≡ false → Refuse Corrupt ≡ overPlan t s x named opening
         unfolding overPlan overWithin
-        over-label d = rw (← fit, eq-eqb scratch c a, lt-ltb x (s .count) b, d)
+        over-fallen g = rw (← fit, lt-ltb x (s .count) b, d, g)
 
-        module _ (d : isOpening named opening ≡ true) where
-          pub over-fallen : isStanding c s ≡ false → Refuse Corrupt ≡ overPlan t scratch s x named opening
+        module _ (g : isStanding c s ≡ true) where
+          pub over-lost : rootAt (t .fields) (t .ancestors) (s .count) x ≡ none → Refuse Corrupt ≡ overPlan t s x named opening
           unfolding overPlan overWithin
-          over-fallen g = rw (← fit, eq-eqb scratch c a, lt-ltb x (s .count) b, d, g)
+          over-lost r = rw (← fit, lt-ltb x (s .count) b, d, g, eq-eqb (rootAt (t .fields) (t .ancestors) (s .count) x) none r)
 
-          module _ (g : isStanding c s ≡ true) where
-            pub over-lost : rootAt (t .fields) (t .ancestors) (s .count) x ≡ none → Refuse Corrupt ≡ overPlan t scratch s x named opening
+          module _ (r : rootAt (t .fields) (t .ancestors) (s .count) x ≢ none) where
+            pub over-other : rootAt (t .fields) (t .ancestors) (s .count) x ≢ x → Refuse NotRoot ≡ overPlan t s x named opening
             unfolding overPlan overWithin
-            over-lost r = rw (← fit, eq-eqb scratch c a, lt-ltb x (s .count) b, d, g, eq-eqb (rootAt (t .fields) (t .ancestors) (s .count) x) none r)
+            over-other o = rw (← fit, lt-ltb x (s .count) b, d, g, ne-eqb (rootAt (t .fields) (t .ancestors) (s .count) x) none r, ne-eqb (rootAt (t .fields) (t .ancestors) (s .count) x) x o)
 
-            module _ (r : rootAt (t .fields) (t .ancestors) (s .count) x ≢ none) where
-              pub over-other : rootAt (t .fields) (t .ancestors) (s .count) x ≢ x → Refuse NotRoot ≡ overPlan t scratch s x named opening
+            module _ (o : rootAt (t .fields) (t .ancestors) (s .count) x ≡ x) where
+              pub over-full : s .count ≡ c → Refuse Full ≡ overPlan t s x named opening
               unfolding overPlan overWithin
-              over-other o = rw (← fit, eq-eqb scratch c a, lt-ltb x (s .count) b, d, g, ne-eqb (rootAt (t .fields) (t .ancestors) (s .count) x) none r, ne-eqb (rootAt (t .fields) (t .ancestors) (s .count) x) x o)
+              over-full e = rw (← fit, lt-ltb x (s .count) b, d, g, ne-eqb (rootAt (t .fields) (t .ancestors) (s .count) x) none r, eq-eqb (rootAt (t .fields) (t .ancestors) (s .count) x) x o, eq-eqb (s .count) c e)
 
-              module _ (o : rootAt (t .fields) (t .ancestors) (s .count) x ≡ x) where
-                pub over-full : s .count ≡ c → Refuse Full ≡ overPlan t scratch s x named opening
-                unfolding overPlan overWithin
-                over-full e = rw (← fit, eq-eqb scratch c a, lt-ltb x (s .count) b, d, g, ne-eqb (rootAt (t .fields) (t .ancestors) (s .count) x) none r, eq-eqb (rootAt (t .fields) (t .ancestors) (s .count) x) x o, eq-eqb (s .count) c e)
-
-                pub over-row : s .count ≢ c → rootOver t s (treeAt (t .ancestors) (s .count) x) x named opening ≡ overPlan t scratch s x named opening
-                unfolding overPlan overWithin
-                over-row e = rw (← fit, eq-eqb scratch c a, lt-ltb x (s .count) b, d, g, ne-eqb (rootAt (t .fields) (t .ancestors) (s .count) x) none r, eq-eqb (rootAt (t .fields) (t .ancestors) (s .count) x) x o, ne-eqb (s .count) c e)
+              pub over-row : s .count ≢ c → rootOver t s (treeAt (t .ancestors) (s .count) x) x named opening ≡ overPlan t s x named opening
+              unfolding overPlan overWithin
+              over-row e = rw (← fit, lt-ltb x (s .count) b, d, g, ne-eqb (rootAt (t .fields) (t .ancestors) (s .count) x) none r, eq-eqb (rootAt (t .fields) (t .ancestors) (s .count) x) x o, ne-eqb (s .count) c e)
 
 -- over the root of the first tree
-module _ (t : Parts) (scratch : ℕ) (s : State) (named : Bool) (opening : ℕ) where
-  pub root-misfit : NoFit ≡ capacityOf t → Refuse Misfit ≡ rootPlan t scratch s named opening
+module _ (t : Parts) (s : State) (named : Bool) (opening : ℕ) where
+  pub root-misfit : NoFit ≡ capacityOf t → Refuse Misfit ≡ rootPlan t s named opening
   unfolding rootPlan
   root-misfit e = rw (← e)
 
   module _ (c : ℕ) (fit : Capacity c ≡ capacityOf t) where
-    pub root-scratch : scratch ≢ c → Refuse Misfit ≡ rootPlan t scratch s named opening
+    pub root-label : isOpening named opening ≡ false → Refuse BadLabel ≡ rootPlan t s named opening
     unfolding rootPlan rootWithin
-    root-scratch a = rw (← fit, ne-eqb scratch c a)
+    root-label d = rw (← fit, d)
 
-    module _ (a : scratch ≡ c) where
-      pub root-label : isOpening named opening ≡ false → Refuse BadLabel ≡ rootPlan t scratch s named opening
+    module _ (d : isOpening named opening ≡ true) where
+      pub root-full : s .count ≡ c → Refuse Full ≡ rootPlan t s named opening
       unfolding rootPlan rootWithin
-      root-label d = rw (← fit, eq-eqb scratch c a, d)
+      root-full e = rw (← fit, d, eq-eqb (s .count) c e)
 
-      module _ (d : isOpening named opening ≡ true) where
-        pub root-full : s .count ≡ c → Refuse Full ≡ rootPlan t scratch s named opening
+      module _ (e : s .count ≢ c) where
+        pub root-fallen : isStanding c s ≡ false → Refuse Corrupt ≡ rootPlan t s named opening
         unfolding rootPlan rootWithin
-        root-full e = rw (← fit, eq-eqb scratch c a, d, eq-eqb (s .count) c e)
+        root-fallen g = rw (← fit, d, ne-eqb (s .count) c e, g)
 
-        module _ (e : s .count ≢ c) where
-          pub root-fallen : isStanding c s ≡ false → Refuse Corrupt ≡ rootPlan t scratch s named opening
+        module _ (g : isStanding c s ≡ true) where
+          pub root-first : s .count ≡ 0 → Start 0 ≡ rootPlan t s named opening
           unfolding rootPlan rootWithin
-          root-fallen g = rw (← fit, eq-eqb scratch c a, d, ne-eqb (s .count) c e, g)
+          root-first z = rw (← fit, d, ne-eqb (s .count) c e, g, eq-eqb (s .count) 0 z)
 
-          module _ (g : isStanding c s ≡ true) where
-            pub root-first : s .count ≡ 0 → Start 0 ≡ rootPlan t scratch s named opening
+          module _ (z : s .count ≢ 0) where
+            pub root-lost : rootAt (t .fields) (t .ancestors) (s .count) 0 ≡ none → Refuse Corrupt ≡ rootPlan t s named opening
             unfolding rootPlan rootWithin
-            root-first z = rw (← fit, eq-eqb scratch c a, d, ne-eqb (s .count) c e, g, eq-eqb (s .count) 0 z)
+            root-lost r = rw (← fit, d, ne-eqb (s .count) c e, g, ne-eqb (s .count) 0 z, eq-eqb (rootAt (t .fields) (t .ancestors) (s .count) 0) none r)
 
-            module _ (z : s .count ≢ 0) where
-              pub root-lost : rootAt (t .fields) (t .ancestors) (s .count) 0 ≡ none → Refuse Corrupt ≡ rootPlan t scratch s named opening
-              unfolding rootPlan rootWithin
-              root-lost r = rw (← fit, eq-eqb scratch c a, d, ne-eqb (s .count) c e, g, ne-eqb (s .count) 0 z, eq-eqb (rootAt (t .fields) (t .ancestors) (s .count) 0) none r)
-
-              pub root-row : rootAt (t .fields) (t .ancestors) (s .count) 0 ≢ none
-                  → rootOver t s (treeAt (t .ancestors) (s .count) 0) (rootAt (t .fields) (t .ancestors) (s .count) 0) named opening ≡ rootPlan t scratch s named opening
-              unfolding rootPlan rootWithin
-              root-row r = rw (← fit, eq-eqb scratch c a, d, ne-eqb (s .count) c e, g, ne-eqb (s .count) 0 z, ne-eqb (rootAt (t .fields) (t .ancestors) (s .count) 0) none r)
+            pub root-row : rootAt (t .fields) (t .ancestors) (s .count) 0 ≢ none
+                → rootOver t s (treeAt (t .ancestors) (s .count) 0) (rootAt (t .fields) (t .ancestors) (s .count) 0) named opening ≡ rootPlan t s named opening
+            unfolding rootPlan rootWithin
+            root-row r = rw (← fit, d, ne-eqb (s .count) c e, g, ne-eqb (s .count) 0 z, ne-eqb (rootAt (t .fields) (t .ancestors) (s .count) 0) none r)

@@ -16,7 +16,6 @@ use table::state::is_standing;
 use table::tree::root_of;
 use table::tree::tree_of;
 ghost use mathlib.Core.Path.{_≡_};
-ghost use lib.ListN.{length};
 ghost use Rattle.table.specs.Parts.{partsOf};
 ghost use Rattle.growth_plan.specs.Plan.{isLabel, isFace, leafPlan};
 
@@ -40,20 +39,16 @@ pub fn plan_leaf(
     numbers: &[u64],
     levels: &[i32],
     ancestors: &[u16],
-    scratch: &[u16],
     state: State,
     parent: u16,
     label: u16,
     face: u16,
 ) -> Planned
-    ensures { λ r. ⌜ r ≡ leafPlan (partsOf (now (fields .entry)) (now (numbers .entry)) (now (levels .entry)) (now (ancestors .entry))) (length (now (scratch .entry))) state parent label face ⌝ }
+    ensures { λ r. ⌜ r ≡ leafPlan (partsOf (now (fields .entry)) (now (numbers .entry)) (now (levels .entry)) (now (ancestors .entry))) state parent label face ⌝ }
 {
     let Fit::Capacity(cap) = capacity(fields, numbers, levels, ancestors) else {
         return Planned::Refuse(Refusal::Misfit);
     };
-    if scratch.len() != cap {
-        return Planned::Refuse(Refusal::Misfit);
-    }
     if state.count <= parent {
         return Planned::Refuse(Refusal::UnknownNode);
     }

@@ -15,7 +15,6 @@ use table::state::is_standing;
 use table::tree::root_of;
 use table::tree::tree_of;
 ghost use mathlib.Core.Path.{_≡_};
-ghost use lib.ListN.{length};
 ghost use Rattle.laws.specs.Test.{pick};
 ghost use Rattle.table.specs.Parts.{partsOf};
 ghost use Rattle.layer.specs.Checked.{Holds};
@@ -83,17 +82,13 @@ pub fn plan_first(
     numbers: &[u64],
     levels: &[i32],
     ancestors: &[u16],
-    scratch: &[u16],
     state: State,
 ) -> Planned
-    ensures { λ r. ⌜ r ≡ firstPlan (partsOf (now (fields .entry)) (now (numbers .entry)) (now (levels .entry)) (now (ancestors .entry))) (length (now (scratch .entry))) state ⌝ }
+    ensures { λ r. ⌜ r ≡ firstPlan (partsOf (now (fields .entry)) (now (numbers .entry)) (now (levels .entry)) (now (ancestors .entry))) state ⌝ }
 {
     let Fit::Capacity(cap) = capacity(fields, numbers, levels, ancestors) else {
         return Planned::Refuse(Refusal::Misfit);
     };
-    if scratch.len() != cap {
-        return Planned::Refuse(Refusal::Misfit);
-    }
     if (state.count as usize) == cap {
         return Planned::Refuse(Refusal::Full);
     }
@@ -109,20 +104,16 @@ pub fn plan_over(
     numbers: &[u64],
     levels: &[i32],
     ancestors: &[u16],
-    scratch: &[u16],
     state: State,
     x: u16,
     named: bool,
     opening: u16,
 ) -> Planned
-    ensures { λ r. ⌜ r ≡ overPlan (partsOf (now (fields .entry)) (now (numbers .entry)) (now (levels .entry)) (now (ancestors .entry))) (length (now (scratch .entry))) state x named opening ⌝ }
+    ensures { λ r. ⌜ r ≡ overPlan (partsOf (now (fields .entry)) (now (numbers .entry)) (now (levels .entry)) (now (ancestors .entry))) state x named opening ⌝ }
 {
     let Fit::Capacity(cap) = capacity(fields, numbers, levels, ancestors) else {
         return Planned::Refuse(Refusal::Misfit);
     };
-    if scratch.len() != cap {
-        return Planned::Refuse(Refusal::Misfit);
-    }
     if state.count <= x {
         return Planned::Refuse(Refusal::UnknownNode);
     }
@@ -162,19 +153,15 @@ pub fn plan_root(
     numbers: &[u64],
     levels: &[i32],
     ancestors: &[u16],
-    scratch: &[u16],
     state: State,
     named: bool,
     opening: u16,
 ) -> Planned
-    ensures { λ r. ⌜ r ≡ rootPlan (partsOf (now (fields .entry)) (now (numbers .entry)) (now (levels .entry)) (now (ancestors .entry))) (length (now (scratch .entry))) state named opening ⌝ }
+    ensures { λ r. ⌜ r ≡ rootPlan (partsOf (now (fields .entry)) (now (numbers .entry)) (now (levels .entry)) (now (ancestors .entry))) state named opening ⌝ }
 {
     let Fit::Capacity(cap) = capacity(fields, numbers, levels, ancestors) else {
         return Planned::Refuse(Refusal::Misfit);
     };
-    if scratch.len() != cap {
-        return Planned::Refuse(Refusal::Misfit);
-    }
     if !is_opening(named, opening) {
         return Planned::Refuse(Refusal::BadLabel);
     }

@@ -76,6 +76,17 @@ largestFace = 1
 abbrev pub isFace : ℕ → Bool
 isFace f = leb f largestFace
 
+-- growth takes a scratch of 32 numbers or more, at any capacity (02: "only a shorter one is misfit")
+abbrev pub leastScratch : ℕ
+leastScratch = 32
+
+abbrev pub fitsGrowth : ℕ → Bool
+fitsGrowth scratch = leb leastScratch scratch
+
+-- a link and an inspection one number to a row of the capacity (02: "Other calls, hang too, keep theirs")
+abbrev pub fitsTable : ℕ → ℕ → Bool
+fitsTable capacity scratch = eqb scratch capacity
+
 -- there is room for one node more
 abbrev pub hasRoom : ℕ → PlainList → Bool
 hasRoom capacity p = not (eqb (countOf p) capacity)
@@ -112,11 +123,11 @@ naiveAlike p x y = naiveSame (parentOf p) (labelOf p) (countOf p) x y && naiveSa
 -- a call on the list p, at this capacity: the first refusal that applies, or else the service
 unfoldable pub plainOutcome : ℕ → PlainList → PlainCall → PlainOutcome
 plainOutcome capacity p (first scratch) =
-    unless (eqb scratch capacity) 3 p
+    unless (fitsGrowth scratch) 3 p
     (unless (hasRoom capacity p) 2 p
     (grows p (withFirst p)))
 plainOutcome capacity p (leaf parent label face scratch) =
-    unless (eqb scratch capacity) 3 p
+    unless (fitsGrowth scratch) 3 p
     (unless (ltb parent (countOf p)) 1 p
     (unless (isLabel label) 5 p
     (unless (isFace face) 13 p
@@ -124,26 +135,26 @@ plainOutcome capacity p (leaf parent label face scratch) =
     (grows p (withLeaf p parent label face))))))
 -- a first node where there is none (02: "On an empty tree a named opening is checked and otherwise unused"), else a new root over that of the tree of node 0
 plainOutcome capacity p (root named opening scratch) =
-    unless (eqb scratch capacity) 3 p
+    unless (fitsGrowth scratch) 3 p
     (unless (isOpening named opening) 5 p
     (unless (hasRoom capacity p) 2 p
     (pick (eqb (countOf p) 0) (grows p (withFirst p)) (grows p (withRoot p (rootIn p 0) named opening)))))
 plainOutcome capacity p (rootOver x named opening scratch) =
-    unless (eqb scratch capacity) 3 p
+    unless (fitsGrowth scratch) 3 p
     (unless (ltb x (countOf p)) 1 p
     (unless (isOpening named opening) 5 p
     (unless (isRoot p x) 10 p
     (unless (hasRoom capacity p) 2 p
     (grows p (withRoot p x named opening))))))
 plainOutcome capacity p (link x v door scratch) =
-    unless (eqb scratch capacity) 3 p
+    unless (fitsTable capacity scratch) 3 p
     (unless (bothKnown p x v) 1 p
     (unless (isLabel door) 5 p
     (links p x v door)))
 plainOutcome capacity p (question x y) = asked p x y (answered (naiveAnswer (parentOf p) (labelOf p) (countOf p) x y))
 plainOutcome capacity p (alike x y) = asked p x y (same (bit (naiveAlike p x y)))
 plainOutcome capacity p (inspection scratch) =
-    unless (eqb scratch capacity) 3 p
+    unless (fitsTable capacity scratch) 3 p
     (replies passes p)
 
 -- the reply to a call

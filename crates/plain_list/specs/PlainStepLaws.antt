@@ -4,7 +4,7 @@ use mathlib.Core.Bool.{Bool, true, false, _&&_}
 use mathlib.Core.Logic.{_≢_}
 use Prim.Native.Nat.{ℕ, _≤_, _<_}
 use native.Mathlib.Omega.{arith}
-use borrow.Author.Tests.{lt-ltb, le-ltb, le-leb, eq-eqb, ne-eqb}
+use borrow.Author.Tests.{lt-ltb, le-ltb, le-leb, lt-leb, eq-eqb, ne-eqb}
 use Rattle.laws.specs.Test.{Says, holds, fails, says-false, says-not, says-and, says-eqb, says-ltb, says-leb, pick, bit}
 use Rattle.tree_laws.specs.Ancestor.{none}
 use Rattle.tree_laws.specs.Answer.{Answer}
@@ -12,7 +12,7 @@ use Rattle.plain_list.specs.PlainList.{PlainList, countOf, parentOf, lab
 use Rattle.plain_list.specs.Naive.{naiveAnswer, naiveSame}
 use Rattle.plain_list.specs.PlainStep.{PlainCall, first, leaf, root, rootOver, link, question, alike, inspection}
 use Rattle.plain_list.specs.PlainStep.{PlainReply, refusal, node, linked, answered, same, passes, PlainOutcome, replies, refusalOf, unless, grows}
-use Rattle.plain_list.specs.PlainStep.{bothKnown, largestLabel, isLabel, isOpening, largestFace, isFace, hasRoom, rootIn, treeCount, naiveAlike, asked, plainOutcome, plainStep, plainAfter}
+use Rattle.plain_list.specs.PlainStep.{bothKnown, largestLabel, isLabel, isOpening, largestFace, isFace, leastScratch, hasRoom, rootIn, treeCount, naiveAlike, asked, plainOutcome, plainStep, plainAfter}
 
 pub says-bothKnown : (p : PlainList) (x y : ℕ) → Says ((x < countOf p) × (y < countOf p)) (bothKnown p x y)
 says-bothKnown p x y = says-and (says-ltb x (countOf p)) (λ _. says-ltb y (countOf p))
@@ -30,15 +30,15 @@ says-itself false = fails (λ e. let z : _≡_ {A = ℕ} 0 1 = cc in omega arith
 -- The services
 
 module _ (capacity : ℕ) (p : PlainList) where
-  pub first-served : (s : ℕ) → s ≡ capacity → countOf p ≢ capacity → plainOutcome capacity p (first s) ≡ grows p (withFirst p)
+  pub first-served : (s : ℕ) → leastScratch ≤ s → countOf p ≢ capacity → plainOutcome capacity p (first s) ≡ grows p (withFirst p)
   unfolding plainOutcome
-  first-served s e d = rw (eq-eqb s capacity e, ne-eqb (countOf p) capacity d)
+  first-served s e d = rw (le-leb leastScratch s e, ne-eqb (countOf p) capacity d)
 
-  pub leaf-served : (v l f s : ℕ) → s ≡ capacity → v < countOf p → 1 ≤ l → l ≤ largestLabel → f ≤ largestFace → countOf p ≢ capacity
+  pub leaf-served : (v l f s : ℕ) → leastScratch ≤ s → v < countOf p → 1 ≤ l → l ≤ largestLabel → f ≤ largestFace → countOf p ≢ capacity
       → plainOutcome capacity p (leaf v l f s) ≡ grows p (withLeaf p v l f)
   unfolding plainOutcome
   leaf-served v l f s e h i j k d = rw (
-    eq-eqb s capacity e,
+    le-leb leastScratch s e,
     lt-ltb v (countOf p) h,
     le-leb 1 l i,
     le-leb l largestLabel j,
@@ -47,21 +47,21 @@ module _ (capacity : ℕ) (p : PlainList) where
   )
 
   -- 01's new root, where there is no node and where there is one
-  pub root-served-first : (named : Bool) (opening s : ℕ) → s ≡ capacity → isOpening named opening ≡ true → countOf p ≢ capacity → countOf p ≡ 0
+  pub root-served-first : (named : Bool) (opening s : ℕ) → leastScratch ≤ s → isOpening named opening ≡ true → countOf p ≢ capacity → countOf p ≡ 0
       → plainOutcome capacity p (root named opening s) ≡ grows p (withFirst p)
   unfolding plainOutcome
-  root-served-first named opening s e o d z = rw (eq-eqb s capacity e, o, ne-eqb (countOf p) capacity d, eq-eqb (countOf p) 0 z)
+  root-served-first named opening s e o d z = rw (le-leb leastScratch s e, o, ne-eqb (countOf p) capacity d, eq-eqb (countOf p) 0 z)
 
-  pub root-served : (named : Bool) (opening s : ℕ) → s ≡ capacity → isOpening named opening ≡ true → countOf p ≢ capacity → countOf p ≢ 0
+  pub root-served : (named : Bool) (opening s : ℕ) → leastScratch ≤ s → isOpening named opening ≡ true → countOf p ≢ capacity → countOf p ≢ 0
       → plainOutcome capacity p (root named opening s) ≡ grows p (withRoot p (rootIn p 0) named opening)
   unfolding plainOutcome
-  root-served named opening s e o d z = rw (eq-eqb s capacity e, o, ne-eqb (countOf p) capacity d, ne-eqb (countOf p) 0 z)
+  root-served named opening s e o d z = rw (le-leb leastScratch s e, o, ne-eqb (countOf p) capacity d, ne-eqb (countOf p) 0 z)
 
-  pub over-served : (x : ℕ) (named : Bool) (opening s : ℕ) → s ≡ capacity → x < countOf p → isOpening named opening ≡ true → parentOf p x ≡ none
+  pub over-served : (x : ℕ) (named : Bool) (opening s : ℕ) → leastScratch ≤ s → x < countOf p → isOpening named opening ≡ true → parentOf p x ≡ none
       → countOf p ≢ capacity → plainOutcome capacity p (rootOver x named opening s) ≡ grows p (withRoot p x named opening)
   unfolding plainOutcome
   over-served x named opening s e h o r d =
-      rw (eq-eqb s capacity e, lt-ltb x (countOf p) h, o, eq-eqb (parentOf p x) none r, ne-eqb (countOf p) capacity d)
+      rw (le-leb leastScratch s e, lt-ltb x (countOf p) h, o, eq-eqb (parentOf p x) none r, ne-eqb (countOf p) capacity d)
 
   pub link-served : (x v door s : ℕ) → s ≡ capacity → x < countOf p → v < countOf p → 1 ≤ door → door ≤ largestLabel → parentOf p x ≡ none → rootIn p v ≢ x
       → plainOutcome capacity p (link x v door s) ≡ record { reply = linked; after = withLink p x v door; joined = treeCount p x }
@@ -93,37 +93,37 @@ module _ (capacity : ℕ) (p : PlainList) where
 -- The refusals: the first that applies
 
 module _ (capacity : ℕ) (p : PlainList) where
-  pub first-misfit : (s : ℕ) → s ≢ capacity → plainOutcome capacity p (first s) ≡ refusalOf 3 p
+  pub first-misfit : (s : ℕ) → s < leastScratch → plainOutcome capacity p (first s) ≡ refusalOf 3 p
   unfolding plainOutcome
-  first-misfit s d = rw (ne-eqb s capacity d)
+  first-misfit s d = rw (lt-leb leastScratch s d)
 
-  pub first-full : (s : ℕ) → s ≡ capacity → countOf p ≡ capacity → plainOutcome capacity p (first s) ≡ refusalOf 2 p
+  pub first-full : (s : ℕ) → leastScratch ≤ s → countOf p ≡ capacity → plainOutcome capacity p (first s) ≡ refusalOf 2 p
   unfolding plainOutcome
-  first-full s e f = rw (eq-eqb s capacity e, eq-eqb (countOf p) capacity f)
+  first-full s e f = rw (le-leb leastScratch s e, eq-eqb (countOf p) capacity f)
 
-  pub leaf-misfit : (v l f s : ℕ) → s ≢ capacity → plainOutcome capacity p (leaf v l f s) ≡ refusalOf 3 p
+  pub leaf-misfit : (v l f s : ℕ) → s < leastScratch → plainOutcome capacity p (leaf v l f s) ≡ refusalOf 3 p
   unfolding plainOutcome
-  leaf-misfit v l f s d = rw (ne-eqb s capacity d)
+  leaf-misfit v l f s d = rw (lt-leb leastScratch s d)
 
-  pub leaf-unknown : (v l f s : ℕ) → s ≡ capacity → countOf p ≤ v → plainOutcome capacity p (leaf v l f s) ≡ refusalOf 1 p
+  pub leaf-unknown : (v l f s : ℕ) → leastScratch ≤ s → countOf p ≤ v → plainOutcome capacity p (leaf v l f s) ≡ refusalOf 1 p
   unfolding plainOutcome
-  leaf-unknown v l f s e h = rw (eq-eqb s capacity e, le-ltb v (countOf p) h)
+  leaf-unknown v l f s e h = rw (le-leb leastScratch s e, le-ltb v (countOf p) h)
 
-  pub leaf-no-label : (v l f s : ℕ) → s ≡ capacity → v < countOf p → ¬ ((1 ≤ l) × (l ≤ largestLabel)) → plainOutcome capacity p (leaf v l f s) ≡ refusalOf 5 p
+  pub leaf-no-label : (v l f s : ℕ) → leastScratch ≤ s → v < countOf p → ¬ ((1 ≤ l) × (l ≤ largestLabel)) → plainOutcome capacity p (leaf v l f s) ≡ refusalOf 5 p
   unfolding plainOutcome
-  leaf-no-label v l f s e h d = rw (eq-eqb s capacity e, lt-ltb v (countOf p) h, says-false (says-label l) d)
+  leaf-no-label v l f s e h d = rw (le-leb leastScratch s e, lt-ltb v (countOf p) h, says-false (says-label l) d)
 
-  pub leaf-no-face : (v l f s : ℕ) → s ≡ capacity → v < countOf p → 1 ≤ l → l ≤ largestLabel → ¬ (f ≤ largestFace)
+  pub leaf-no-face : (v l f s : ℕ) → leastScratch ≤ s → v < countOf p → 1 ≤ l → l ≤ largestLabel → ¬ (f ≤ largestFace)
       → plainOutcome capacity p (leaf v l f s) ≡ refusalOf 13 p
   unfolding plainOutcome
   leaf-no-face v l f s e h i j d =
-      rw (eq-eqb s capacity e, lt-ltb v (countOf p) h, le-leb 1 l i, le-leb l largestLabel j, says-false (says-face f) d)
+      rw (le-leb leastScratch s e, lt-ltb v (countOf p) h, le-leb 1 l i, le-leb l largestLabel j, says-false (says-face f) d)
 
-  pub leaf-full : (v l f s : ℕ) → s ≡ capacity → v < countOf p → 1 ≤ l → l ≤ largestLabel → f ≤ largestFace → countOf p ≡ capacity
+  pub leaf-full : (v l f s : ℕ) → leastScratch ≤ s → v < countOf p → 1 ≤ l → l ≤ largestLabel → f ≤ largestFace → countOf p ≡ capacity
       → plainOutcome capacity p (leaf v l f s) ≡ refusalOf 2 p
   unfolding plainOutcome
   leaf-full v l f s e h i j k z = rw (
-    eq-eqb s capacity e,
+    le-leb leastScratch s e,
     lt-ltb v (countOf p) h,
     le-leb 1 l i,
     le-leb l largestLabel j,
@@ -131,44 +131,44 @@ module _ (capacity : ℕ) (p : PlainList) where
     eq-eqb (countOf p) capacity z,
   )
 
-  pub root-misfit : (named : Bool) (opening s : ℕ) → s ≢ capacity → plainOutcome capacity p (root named opening s) ≡ refusalOf 3 p
+  pub root-misfit : (named : Bool) (opening s : ℕ) → s < leastScratch → plainOutcome capacity p (root named opening s) ≡ refusalOf 3 p
   unfolding plainOutcome
-  root-misfit named opening s d = rw (ne-eqb s capacity d)
+  root-misfit named opening s d = rw (lt-leb leastScratch s d)
 
-  pub root-no-label : (named : Bool) (opening s : ℕ) → s ≡ capacity → isOpening named opening ≡ false
+  pub root-no-label : (named : Bool) (opening s : ℕ) → leastScratch ≤ s → isOpening named opening ≡ false
       → plainOutcome capacity p (root named opening s) ≡ refusalOf 5 p
   unfolding plainOutcome
-  root-no-label named opening s e o = rw (eq-eqb s capacity e, o)
+  root-no-label named opening s e o = rw (le-leb leastScratch s e, o)
 
-  pub root-full : (named : Bool) (opening s : ℕ) → s ≡ capacity → isOpening named opening ≡ true → countOf p ≡ capacity
+  pub root-full : (named : Bool) (opening s : ℕ) → leastScratch ≤ s → isOpening named opening ≡ true → countOf p ≡ capacity
       → plainOutcome capacity p (root named opening s) ≡ refusalOf 2 p
   unfolding plainOutcome
-  root-full named opening s e o f = rw (eq-eqb s capacity e, o, eq-eqb (countOf p) capacity f)
+  root-full named opening s e o f = rw (le-leb leastScratch s e, o, eq-eqb (countOf p) capacity f)
 
-  pub over-misfit : (x : ℕ) (named : Bool) (opening s : ℕ) → s ≢ capacity → plainOutcome capacity p (rootOver x named opening s) ≡ refusalOf 3 p
+  pub over-misfit : (x : ℕ) (named : Bool) (opening s : ℕ) → s < leastScratch → plainOutcome capacity p (rootOver x named opening s) ≡ refusalOf 3 p
   unfolding plainOutcome
-  over-misfit x named opening s d = rw (ne-eqb s capacity d)
+  over-misfit x named opening s d = rw (lt-leb leastScratch s d)
 
-  pub over-unknown : (x : ℕ) (named : Bool) (opening s : ℕ) → s ≡ capacity → countOf p ≤ x
+  pub over-unknown : (x : ℕ) (named : Bool) (opening s : ℕ) → leastScratch ≤ s → countOf p ≤ x
       → plainOutcome capacity p (rootOver x named opening s) ≡ refusalOf 1 p
   unfolding plainOutcome
-  over-unknown x named opening s e h = rw (eq-eqb s capacity e, le-ltb x (countOf p) h)
+  over-unknown x named opening s e h = rw (le-leb leastScratch s e, le-ltb x (countOf p) h)
 
-  pub over-no-label : (x : ℕ) (named : Bool) (opening s : ℕ) → s ≡ capacity → x < countOf p → isOpening named opening ≡ false
+  pub over-no-label : (x : ℕ) (named : Bool) (opening s : ℕ) → leastScratch ≤ s → x < countOf p → isOpening named opening ≡ false
       → plainOutcome capacity p (rootOver x named opening s) ≡ refusalOf 5 p
   unfolding plainOutcome
-  over-no-label x named opening s e h o = rw (eq-eqb s capacity e, lt-ltb x (countOf p) h, o)
+  over-no-label x named opening s e h o = rw (le-leb leastScratch s e, lt-ltb x (countOf p) h, o)
 
-  pub over-no-root : (x : ℕ) (named : Bool) (opening s : ℕ) → s ≡ capacity → x < countOf p → isOpening named opening ≡ true → parentOf p x ≢ none
+  pub over-no-root : (x : ℕ) (named : Bool) (opening s : ℕ) → leastScratch ≤ s → x < countOf p → isOpening named opening ≡ true → parentOf p x ≢ none
       → plainOutcome capacity p (rootOver x named opening s) ≡ refusalOf 10 p
   unfolding plainOutcome
-  over-no-root x named opening s e h o d = rw (eq-eqb s capacity e, lt-ltb x (countOf p) h, o, ne-eqb (parentOf p x) none d)
+  over-no-root x named opening s e h o d = rw (le-leb leastScratch s e, lt-ltb x (countOf p) h, o, ne-eqb (parentOf p x) none d)
 
-  pub over-full : (x : ℕ) (named : Bool) (opening s : ℕ) → s ≡ capacity → x < countOf p → isOpening named opening ≡ true → parentOf p x ≡ none
+  pub over-full : (x : ℕ) (named : Bool) (opening s : ℕ) → leastScratch ≤ s → x < countOf p → isOpening named opening ≡ true → parentOf p x ≡ none
       → countOf p ≡ capacity → plainOutcome capacity p (rootOver x named opening s) ≡ refusalOf 2 p
   unfolding plainOutcome
   over-full x named opening s e h o r f =
-      rw (eq-eqb s capacity e, lt-ltb x (countOf p) h, o, eq-eqb (parentOf p x) none r, eq-eqb (countOf p) capacity f)
+      rw (le-leb leastScratch s e, lt-ltb x (countOf p) h, o, eq-eqb (parentOf p x) none r, eq-eqb (countOf p) capacity f)
 
   pub question-unknown : (x y : ℕ) → ¬ ((x < countOf p) × (y < countOf p)) → plainOutcome capacity p (question x y) ≡ refusalOf 1 p
   unfolding plainOutcome
@@ -274,20 +274,20 @@ module _ (capacity : ℕ) (p : PlainList) where
 
   pub call-does : (q : PlainCall) → Does capacity p q (plainOutcome capacity p q)
   unfolding plainOutcome
-  call-does (first s) = checked 3 (says-eqb s capacity) (λ _. checked 2 room adds-first)
+  call-does (first s) = checked 3 (says-leb leastScratch s) (λ _. checked 2 room adds-first)
   call-does (leaf v l f s) =
-      checked 3 (says-eqb s capacity) (λ _.
+      checked 3 (says-leb leastScratch s) (λ _.
       checked 1 (says-ltb v (countOf p)) (λ h.
       checked 5 (says-label l) (λ i.
       checked 13 (says-face f) (λ j.
       checked 2 room (λ d. adds-leaf h (i .0) (i .1) j d)))))
   call-does (root named opening s) =
-      checked 3 (says-eqb s capacity) (λ _.
+      checked 3 (says-leb leastScratch s) (λ _.
       checked 5 (says-itself (isOpening named opening)) (λ _.
       checked 2 room (λ d.
       either (says-eqb (countOf p) 0) (λ _. adds-first d) (λ z. adds-root z d))))
   call-does (rootOver x named opening s) =
-      checked 3 (says-eqb s capacity) (λ _.
+      checked 3 (says-leb leastScratch s) (λ _.
       checked 1 (says-ltb x (countOf p)) (λ h.
       checked 5 (says-itself (isOpening named opening)) (λ _.
       checked 10 (says-eqb (parentOf p x) none) (λ r.

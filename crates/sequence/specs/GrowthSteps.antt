@@ -11,15 +11,15 @@ use lib.ListN.{length}
 use Rattle.laws.specs.Test.{says-true, says-false, says-get}
 use Rattle.tree_laws.specs.Ancestor.{none}
 use Rattle.table.specs.declared.refusal.Refusal.{Refusal}
-use Rattle.table.specs.declared.refusal.Refusal.the-variants.{UnknownNode, Full, Misfit, BadLabel, NotRoot, BadFace}
+use Rattle.table.specs.declared.refusal.Refusal.the-variants.{UnknownNode, Full, BadLabel, NotRoot, BadFace}
 use Rattle.table.specs.Refusal.{numberOf}
 use Rattle.table.specs.PlainTree.{plain, root as rootOf}
 use Rattle.table.specs.Rules.{labelLimit, faceLimit}
+use Rattle.table.specs.Scratch.{leastScratch}
 use Rattle.table_laws.specs.TreeTests.{root-is}
 use Rattle.growth_plan.specs.declared.row.Planned.the-variants.{Refuse}
 use Rattle.growth_plan.specs.Plan.{isOpening, firstPlan, leafPlan, overPlan, rootPlan}
-use Rattle.growth_plan.specs.PlanLaws.{leaf-scratch, leaf-unknown, leaf-label, leaf-face, leaf-full, first-scratch, first-full, root-scratch, root-label, root-full}
-use Rattle.growth_plan.specs.PlanLaws.{over-scratch, over-unknown, over-label, over-other, over-full}
+use Rattle.growth_plan.specs.PlanLaws.{leaf-unknown, leaf-label, leaf-face, leaf-full, first-full, root-label, root-full, over-unknown, over-label, over-other, over-full}
 use Rattle.growth.specs.Growth.{Result, addFirst, addLeaf, addOver, addRoot}
 use Rattle.growth_laws.specs.Growth.{leaf as newLeaf, root as newRoot}
 use Rattle.growth_exact.specs.GivenMarks.{says-label, says-face, says-opening}
@@ -37,7 +37,7 @@ use Rattle.sequence.specs.Run.{Fast, tableIn, step}
 use Rattle.sequence.specs.Invariant.{Stands}
 use Rattle.sequence.specs.StepExact.{asks-leaf, asks-over, asks-root, begins-first, begins-root, StepStands}
 use Rattle.sequence.specs.Trees.{in-use, root-top, top-root, root-known, root-shown}
-use Rattle.sequence.specs.Growths.{Next, grown-step, started-step, fit, grown-refused}
+use Rattle.sequence.specs.Growths.{Next, grown-step, started-step, fit, grown-refused, grown-lent}
 
 -- both ask the same of an opening
 opening-same : (named : Bool) (opening : ℕ) → plainOpening named opening ≡ isOpening named opening
@@ -88,13 +88,13 @@ module _ {c : ℕ} {f : Fast} {p : PlainList} {stored : StoredList} {total joini
   -- First node
 
   module _ (scratch : List ℕ) where
-    first-refused : (r : Refusal) → plainOutcome c p (plainFirst (length scratch)) ≡ refusalOf (numberOf r) p
-        → Refuse r ≡ firstPlan (f .parts) (length scratch) (f .state)
+    first-refused : leastScratch ≤ length scratch → (r : Refusal) → plainOutcome c p (plainFirst (length scratch)) ≡ refusalOf (numberOf r) p
+        → Refuse r ≡ firstPlan (f .parts) (f .state)
         → StepStands c f p stored total joinings (first scratch) (plainOutcome c p (plainFirst (length scratch))) (step f (first scratch))
     unfolding step addFirst
-    first-refused r e i = grown-refused s (first scratch) r _ e i
+    first-refused h r e i = grown-refused s (first scratch) _ (length scratch) _ h r e i
 
-    first-served : length scratch ≡ c → countOf p ≢ c
+    first-served : leastScratch ≤ length scratch → countOf p ≢ c
         → StepStands c f p stored total joinings (first scratch) (plainOutcome c p (plainFirst (length scratch))) (step f (first scratch))
     unfolding step
     first-served e n =
@@ -102,14 +102,11 @@ module _ {c : ℕ} {f : Fast} {p : PlainList} {stored : StoredList} {total joini
         rw (plainly.first-served c p (length scratch) e n) (started-step s _ x begins-first (first-next n x))
 
     pub first-step : StepStands c f p stored total joinings (first scratch) (plainOutcome c p (plainFirst (length scratch))) (step f (first scratch))
-    first-step = elim (ℕ-discrete (length scratch) c) [
-      | no d ↦ first-refused Misfit (plainly.first-misfit c p (length scratch) d) (first-scratch (f .parts) (length scratch) (f .state) c (fit s) d)
-      | yes e ↦ elim (ℕ-discrete (countOf p) c) [
-        | yes w ↦ first-refused Full (plainly.first-full c p (length scratch) e w)
-            (first-full (f .parts) (length scratch) (f .state) c (fit s) e (sym (s .count) ∙ w))
-        | no w ↦ first-served e w
-      ]
-    ]
+    unfolding step addFirst
+    first-step = grown-lent s (first scratch) _ (length scratch) _ (plainly.first-misfit c p (length scratch)) (λ e. elim (ℕ-discrete (countOf p) c) [
+      | yes w ↦ first-refused e Full (plainly.first-full c p (length scratch) e w) (first-full (f .parts) (f .state) c (fit s) (sym (s .count) ∙ w))
+      | no w ↦ first-served e w
+    ])
 
   -- Leaf
 
@@ -117,12 +114,12 @@ module _ {c : ℕ} {f : Fast} {p : PlainList} {stored : StoredList} {total joini
     abbrev LeafStep : Type 0
     LeafStep = StepStands c f p stored total joinings (leaf v l a scratch) (plainOutcome c p (plainLeaf v l a (length scratch))) (step f (leaf v l a scratch))
 
-    leaf-refused : (r : Refusal) → plainOutcome c p (plainLeaf v l a (length scratch)) ≡ refusalOf (numberOf r) p
-        → Refuse r ≡ leafPlan (f .parts) (length scratch) (f .state) v l a → LeafStep
+    leaf-refused : leastScratch ≤ length scratch → (r : Refusal) → plainOutcome c p (plainLeaf v l a (length scratch)) ≡ refusalOf (numberOf r) p
+        → Refuse r ≡ leafPlan (f .parts) (f .state) v l a → LeafStep
     unfolding step addLeaf
-    leaf-refused r e i = grown-refused s (leaf v l a scratch) r _ e i
+    leaf-refused h r e i = grown-refused s (leaf v l a scratch) _ (length scratch) _ h r e i
 
-    module _ (e : length scratch ≡ c) (h : v < countOf p) where
+    module _ (e : leastScratch ≤ length scratch) (h : v < countOf p) where
       leaf-served : 1 ≤ l → l ≤ labelLimit → a ≤ faceLimit → countOf p ≢ c → LeafStep
       unfolding step
       leaf-served i j m n =
@@ -130,20 +127,20 @@ module _ {c : ℕ} {f : Fast} {p : PlainList} {stored : StoredList} {total joini
           rw (plainly.leaf-served c p v l a (length scratch) e h i j m n) (grown-step s _ x asks-leaf (leaf-next n h x))
 
       leaf-unlabelled : ¬ ((1 ≤ l) × (l ≤ labelLimit)) → LeafStep
-      leaf-unlabelled d = leaf-refused BadLabel (plainly.leaf-no-label c p v l a (length scratch) e h d)
-          (leaf-label (f .parts) (length scratch) (f .state) v l a c (fit s) e (in-use s h) (says-false (says-label l) d))
+      leaf-unlabelled d = leaf-refused e BadLabel (plainly.leaf-no-label c p v l a (length scratch) e h d)
+          (leaf-label (f .parts) (f .state) v l a c (fit s) (in-use s h) (says-false (says-label l) d))
 
       leaf-labelled : 1 ≤ l → l ≤ labelLimit → LeafStep
       leaf-labelled i j = elim (decLt faceLimit a) [
         | yes d ↦
             let n : ¬ (a ≤ faceLimit) = λ z. omega arith in
-            leaf-refused BadFace (plainly.leaf-no-face c p v l a (length scratch) e h i j n)
-            (leaf-face (f .parts) (length scratch) (f .state) v l a c (fit s) e (in-use s h) (says-true (says-label l) (i, j)) (says-false (says-face a) n))
+            leaf-refused e BadFace (plainly.leaf-no-face c p v l a (length scratch) e h i j n)
+            (leaf-face (f .parts) (f .state) v l a c (fit s) (in-use s h) (says-true (says-label l) (i, j)) (says-false (says-face a) n))
         | no d ↦
             let m : a ≤ faceLimit = omega arith in
             elim (ℕ-discrete (countOf p) c) [
-              | yes w ↦ leaf-refused Full (plainly.leaf-full c p v l a (length scratch) e h i j m w)
-                  (leaf-full (f .parts) (length scratch) (f .state) v l a c (fit s) e (in-use s h)
+              | yes w ↦ leaf-refused e Full (plainly.leaf-full c p v l a (length scratch) e h i j m w)
+                  (leaf-full (f .parts) (f .state) v l a c (fit s) (in-use s h)
                   (says-true (says-label l) (i, j)) (says-true (says-face a) m) (sym (s .count) ∙ w))
               | no w ↦ leaf-served i j m w
             ]
@@ -156,14 +153,12 @@ module _ {c : ℕ} {f : Fast} {p : PlainList} {stored : StoredList} {total joini
       ]
 
     pub leaf-step : LeafStep
-    leaf-step = elim (ℕ-discrete (length scratch) c) [
-      | no d ↦ leaf-refused Misfit (plainly.leaf-misfit c p v l a (length scratch) d) (leaf-scratch (f .parts) (length scratch) (f .state) v l a c (fit s) d)
-      | yes e ↦ elim (decLt v (countOf p)) [
-        | no d ↦ leaf-refused UnknownNode (plainly.leaf-unknown c p v l a (length scratch) e (omega arith))
-            (leaf-unknown (f .parts) (length scratch) (f .state) v l a c (fit s) e (omega (arith, s .count)))
-        | yes h ↦ leaf-known e h
-      ]
-    ]
+    unfolding step addLeaf
+    leaf-step = grown-lent s (leaf v l a scratch) _ (length scratch) _ (plainly.leaf-misfit c p v l a (length scratch)) (λ e. elim (decLt v (countOf p)) [
+      | no d ↦ leaf-refused e UnknownNode (plainly.leaf-unknown c p v l a (length scratch) e (omega arith))
+          (leaf-unknown (f .parts) (f .state) v l a c (fit s) (omega (arith, s .count)))
+      | yes h ↦ leaf-known e h
+    ])
 
   -- 01's new root
 
@@ -171,12 +166,12 @@ module _ {c : ℕ} {f : Fast} {p : PlainList} {stored : StoredList} {total joini
     abbrev RootStep : Type 0
     RootStep = StepStands c f p stored total joinings (root named opening scratch) (plainOutcome c p (plainRoot named opening (length scratch))) (step f (root named opening scratch))
 
-    root-refused : (r : Refusal) → plainOutcome c p (plainRoot named opening (length scratch)) ≡ refusalOf (numberOf r) p
-        → Refuse r ≡ rootPlan (f .parts) (length scratch) (f .state) named opening → RootStep
+    root-refused : leastScratch ≤ length scratch → (r : Refusal) → plainOutcome c p (plainRoot named opening (length scratch)) ≡ refusalOf (numberOf r) p
+        → Refuse r ≡ rootPlan (f .parts) (f .state) named opening → RootStep
     unfolding step addRoot
-    root-refused r e i = grown-refused s (root named opening scratch) r _ e i
+    root-refused h r e i = grown-refused s (root named opening scratch) _ (length scratch) _ h r e i
 
-    module _ (e : length scratch ≡ c) (i : isOpening named opening ≡ true) where
+    module _ (e : leastScratch ≤ length scratch) (i : isOpening named opening ≡ true) where
       root-served-first : countOf p ≢ c → countOf p ≡ 0 → RootStep
       unfolding step
       root-served-first n z =
@@ -195,20 +190,19 @@ module _ {c : ℕ} {f : Fast} {p : PlainList} {stored : StoredList} {total joini
           rw (plainly.root-served c p named opening (length scratch) e (opening-same named opening ∙ i) n z, root-shown s 0 l)
           (grown-step s _ x asks-root (root-next named opening n (root-known s 0 l) t x))
 
-    root-opened : length scratch ≡ c → (b : Bool) → isOpening named opening ≡ b → RootStep
-    root-opened e false i = root-refused BadLabel (plainly.root-no-label c p named opening (length scratch) e (opening-same named opening ∙ i))
-        (root-label (f .parts) (length scratch) (f .state) named opening c (fit s) e i)
+    root-opened : leastScratch ≤ length scratch → (b : Bool) → isOpening named opening ≡ b → RootStep
+    root-opened e false i = root-refused e BadLabel (plainly.root-no-label c p named opening (length scratch) e (opening-same named opening ∙ i))
+        (root-label (f .parts) (f .state) named opening c (fit s) i)
     root-opened e true i = elim (ℕ-discrete (countOf p) c) [
-      | yes w ↦ root-refused Full (plainly.root-full c p named opening (length scratch) e (opening-same named opening ∙ i) w)
-          (root-full (f .parts) (length scratch) (f .state) named opening c (fit s) e i (sym (s .count) ∙ w))
+      | yes w ↦ root-refused e Full (plainly.root-full c p named opening (length scratch) e (opening-same named opening ∙ i) w)
+          (root-full (f .parts) (f .state) named opening c (fit s) i (sym (s .count) ∙ w))
       | no w ↦ elim (ℕ-discrete (countOf p) 0) [ yes z ↦ root-served-first e i w z | no z ↦ root-served e i w z ]
     ]
 
     pub root-step : RootStep
-    root-step = elim (ℕ-discrete (length scratch) c) [
-      | no d ↦ root-refused Misfit (plainly.root-misfit c p named opening (length scratch) d) (root-scratch (f .parts) (length scratch) (f .state) named opening c (fit s) d)
-      | yes e ↦ root-opened e (isOpening named opening) refl
-    ]
+    unfolding step addRoot
+    root-step = grown-lent s (root named opening scratch) _ (length scratch) _ (plainly.root-misfit c p named opening (length scratch))
+        (λ e. root-opened e (isOpening named opening) refl)
 
   -- A new root over x
 
@@ -217,12 +211,12 @@ module _ {c : ℕ} {f : Fast} {p : PlainList} {stored : StoredList} {total joini
     OverStep = StepStands c f p stored total joinings (rootOver x named opening scratch) (plainOutcome c p (plainOver x named opening (length scratch)))
         (step f (rootOver x named opening scratch))
 
-    over-refused : (r : Refusal) → plainOutcome c p (plainOver x named opening (length scratch)) ≡ refusalOf (numberOf r) p
-        → Refuse r ≡ overPlan (f .parts) (length scratch) (f .state) x named opening → OverStep
+    over-refused : leastScratch ≤ length scratch → (r : Refusal) → plainOutcome c p (plainOver x named opening (length scratch)) ≡ refusalOf (numberOf r) p
+        → Refuse r ≡ overPlan (f .parts) (f .state) x named opening → OverStep
     unfolding step addOver
-    over-refused r e i = grown-refused s (rootOver x named opening scratch) r _ e i
+    over-refused h r e i = grown-refused s (rootOver x named opening scratch) _ (length scratch) _ h r e i
 
-    module _ (e : length scratch ≡ c) (h : x < countOf p) (i : isOpening named opening ≡ true) where
+    module _ (e : leastScratch ≤ length scratch) (h : x < countOf p) (i : isOpening named opening ≡ true) where
       over-served : parentOf p x ≡ none → countOf p ≢ c → OverStep
       unfolding step
       over-served t n =
@@ -237,26 +231,25 @@ module _ {c : ℕ} {f : Fast} {p : PlainList} {stored : StoredList} {total joini
           let some = rooted (f .parts) (f .state) (s .fits) (s .rules) x l in
           let read = root-is (f .parts) (f .state .count) (s .rules) (s .fits .most) x l in
           elim (ℕ-discrete (parentOf p x) none) [
-            | no d ↦ over-refused NotRoot (plainly.over-no-root c p x named opening (length scratch) e h (opening-same named opening ∙ i) d)
-                (over-other (f .parts) (length scratch) (f .state) x named opening c (fit s) e l i g some (λ z. d (root-top s h (sym read ∙ z))))
+            | no d ↦ over-refused e NotRoot (plainly.over-no-root c p x named opening (length scratch) e h (opening-same named opening ∙ i) d)
+                (over-other (f .parts) (f .state) x named opening c (fit s) l i g some (λ z. d (root-top s h (sym read ∙ z))))
             | yes t ↦ elim (ℕ-discrete (countOf p) c) [
-              | yes w ↦ over-refused Full (plainly.over-full c p x named opening (length scratch) e h (opening-same named opening ∙ i) t w)
-                  (over-full (f .parts) (length scratch) (f .state) x named opening c (fit s) e l i g some (read ∙ top-root s h t) (sym (s .count) ∙ w))
+              | yes w ↦ over-refused e Full (plainly.over-full c p x named opening (length scratch) e h (opening-same named opening ∙ i) t w)
+                  (over-full (f .parts) (f .state) x named opening c (fit s) l i g some (read ∙ top-root s h t) (sym (s .count) ∙ w))
               | no w ↦ over-served t w
             ]
           ]
 
-    over-opened : length scratch ≡ c → x < countOf p → (b : Bool) → isOpening named opening ≡ b → OverStep
-    over-opened e h false i = over-refused BadLabel (plainly.over-no-label c p x named opening (length scratch) e h (opening-same named opening ∙ i))
-        (over-label (f .parts) (length scratch) (f .state) x named opening c (fit s) e (in-use s h) i)
+    over-opened : leastScratch ≤ length scratch → x < countOf p → (b : Bool) → isOpening named opening ≡ b → OverStep
+    over-opened e h false i = over-refused e BadLabel (plainly.over-no-label c p x named opening (length scratch) e h (opening-same named opening ∙ i))
+        (over-label (f .parts) (f .state) x named opening c (fit s) (in-use s h) i)
     over-opened e h true i = over-known e h i
 
     pub over-step : OverStep
-    over-step = elim (ℕ-discrete (length scratch) c) [
-      | no d ↦ over-refused Misfit (plainly.over-misfit c p x named opening (length scratch) d) (over-scratch (f .parts) (length scratch) (f .state) x named opening c (fit s) d)
-      | yes e ↦ elim (decLt x (countOf p)) [
-        | no d ↦ over-refused UnknownNode (plainly.over-unknown c p x named opening (length scratch) e (omega arith))
-            (over-unknown (f .parts) (length scratch) (f .state) x named opening c (fit s) e (omega (arith, s .count)))
-        | yes h ↦ over-opened e h (isOpening named opening) refl
-      ]
-    ]
+    unfolding step addOver
+    over-step = grown-lent s (rootOver x named opening scratch) _ (length scratch) _ (plainly.over-misfit c p x named opening (length scratch))
+        (λ e. elim (decLt x (countOf p)) [
+          | no d ↦ over-refused e UnknownNode (plainly.over-unknown c p x named opening (length scratch) e (omega arith))
+              (over-unknown (f .parts) (f .state) x named opening c (fit s) (omega (arith, s .count)))
+          | yes h ↦ over-opened e h (isOpening named opening) refl
+        ])

@@ -1,11 +1,13 @@
 -- A growth, where the table stands beside the plain list: served, and the table stands beside it again, or refused as it refuses.
 use mathlib.Core.Path.{_≡_, refl, sym, ap, _∙_}
-use Prim.Native.Nat.{ℕ, suc, _<_}
+use Prim.Native.Nat.{ℕ, suc, _≤_, _<_}
+use native.Mathlib.Decide.{decLt}
 use native.Mathlib.Omega.{arith}
-use borrow.Author.Tests.{eq-eqb, ne-eqb}
+use borrow.Author.Tests.{eq-eqb, ne-eqb, le-leb, lt-leb}
 use Rattle.tree_laws.specs.Ancestor.{none}
 use Rattle.table.specs.declared.capacity.Fit.the-variants.{Capacity}
 use Rattle.table.specs.declared.refusal.Refusal.{Refusal}
+use Rattle.table.specs.declared.refusal.Refusal.the-variants.{Misfit}
 use Rattle.table.specs.Refusal.{numberOf}
 use Rattle.table.specs.Capacity.{capacityOf}
 use Rattle.table.specs.Table.{Table}
@@ -13,12 +15,13 @@ use Rattle.layer.specs.Layer.{parent}
 use Rattle.table.specs.PlainTree.{plain}
 use Rattle.table.specs.CapacityLaws.{fits-told}
 use Rattle.table.specs.Rules.{numbered}
+use Rattle.table.specs.Scratch.{leastScratch}
 use Rattle.growth_plan.specs.declared.row.Planned.{Planned}
 use Rattle.growth_plan.specs.declared.row.Planned.the-variants.{Refuse}
-use Rattle.growth.specs.Outcome.{Outcome}
+use Rattle.growth.specs.Outcome.{Outcome, refused}
 use Rattle.tally.specs.FitLaws.{with-told}
-use Rattle.growth.specs.Growth.{Result, grownBy}
-use Rattle.growth.specs.GrowthLaws.{grow-refused}
+use Rattle.growth.specs.Growth.{Result, result, grownBy}
+use Rattle.growth.specs.GrowthLaws.{grow-short, grow-refused}
 use Rattle.growth_laws.specs.Growth.{Growth, Named, named-root, parentOf}
 use Rattle.growth_laws.specs.Grown.{Grown, Started}
 use Rattle.layer_laws.specs.Numbered.{shape}
@@ -34,7 +37,7 @@ use Rattle.plain_list.specs.Shows.{Shows}
 use Rattle.plain_list.specs.StoredList.{StoredList, storedUnder, storedBy, storedBelow}
 use Rattle.plain_list.specs.Stores.{Stores, stores-node, stores-below}
 use Rattle.sequence.specs.Calls.{Call, refusal, node, told}
-use Rattle.sequence.specs.Run.{Fast, tableIn, Turn, replies, grownReply, stateAfter, afterGrowth, rowsIn, headIn}
+use Rattle.sequence.specs.Run.{Fast, tableIn, Turn, grownReply, stateAfter, afterGrowth, rowsIn, headIn}
 use Rattle.sequence.specs.Agrees.{Agrees, nodes}
 use Rattle.sequence.specs.Invariant.{Stands}
 use Rattle.sequence.specs.StepExact.{Asks, asks-leaf, asks-root, asks-over, Begins, begins-first, begins-root, Renumbers, growth, start, StepStands, few-rows}
@@ -147,9 +150,21 @@ module _ {c : ℕ} {f : Fast} {p : PlainList} {stored : StoredList} {total joini
   pub fit : Capacity c ≡ capacityOf (f .parts)
   fit = sym (fits-told (s .fits))
 
-  refused-by : (r : Refusal) (z : Planned) → Refuse r ≡ z → afterGrowth (f .state) (grownBy (f .parts) (f .tally) z) ≡ replies f (refusal (numberOf r))
-  refused-by r z e = ap (afterGrowth (f .state)) (sym (grow-refused (f .parts) (f .tally) z c (sym (with-told (f .parts) (f .tally) (s .fits) (s .tally .long))) r (sym e)))
+  module _ (q : Call) (o : PlainOutcome) (scratch : ℕ) (z : Planned) where
+    abbrev GrowthStep : Type 0
+    GrowthStep = StepStands c f p stored total joinings q o (afterGrowth (f .state) (grownBy (f .parts) (f .tally) scratch z))
 
-  pub grown-refused : (q : Call) {o : PlainOutcome} (r : Refusal) (z : Planned) → o ≡ refusalOf (numberOf r) p → Refuse r ≡ z
-      → StepStands c f p stored total joinings q o (afterGrowth (f .state) (grownBy (f .parts) (f .tally) z))
-  grown-refused q r z e i = steps-by s q (plainRefusal (numberOf r)) (refusal (numberOf r)) e (refused-by r z i) (still-refused s q (numberOf r))
+    refused-by : (r : Refusal) → o ≡ refusalOf (numberOf r) p → result (f .parts) (f .tally) (refused r) ≡ grownBy (f .parts) (f .tally) scratch z → GrowthStep
+    refused-by r e i = steps-by s q (plainRefusal (numberOf r)) (refusal (numberOf r)) e (ap (afterGrowth (f .state)) (sym i)) (still-refused s q (numberOf r))
+
+    -- by its plan, where the scratch fits
+    pub grown-refused : leastScratch ≤ scratch → (r : Refusal) → o ≡ refusalOf (numberOf r) p → Refuse r ≡ z → GrowthStep
+    grown-refused h r e i = refused-by r e
+        (grow-refused (f .parts) (f .tally) scratch z (le-leb leastScratch scratch h) c (sym (with-told (f .parts) (f .tally) (s .fits) (s .tally .long))) r (sym i))
+
+    -- a growth with a scratch that is too short is refused on both sides, so that the scratch may be taken to fit
+    pub grown-lent : (scratch < leastScratch → o ≡ refusalOf 3 p) → (leastScratch ≤ scratch → GrowthStep) → GrowthStep
+    grown-lent short long = elim (decLt scratch leastScratch) [
+      | yes d ↦ refused-by Misfit (short d) (grow-short (f .parts) (f .tally) scratch z (lt-leb leastScratch scratch d))
+      | no d ↦ long (omega arith)
+    ]

@@ -10,3 +10,4 @@ pub mod Growths
 pub mod GrowthSteps
 pub mod LinkSteps
 pub mod SequenceExact
+pub mod ScratchFree

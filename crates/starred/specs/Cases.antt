@@ -6,6 +6,7 @@ use lib.IntN.{ℤ, pos, negsuc}
 use lib.ListN.{replicate, take}
 use Rattle.layer.specs.Layout.{fieldStride, numberStride, entryStride}
 use Rattle.table.specs.Parts.{Parts, partsOf}
+use Rattle.table.specs.Scratch.{leastScratch}
 use Rattle.tally.specs.Layout.{tallyLength}
 use Rattle.layer.specs.Layer.{start}
 use Rattle.layer.specs.Spans.{p, q, end}
@@ -25,7 +26,7 @@ abbrev pub lentTally : List ℕ
 lentTally = replicate tallyLength 0
 
 abbrev pub scratch : List ℕ
-scratch = replicate capacity 0
+scratch = replicate leastScratch 0
 
 -- ---- what a case looks at
 

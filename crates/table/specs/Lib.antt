@@ -2,6 +2,7 @@ pub mod Layout
 pub mod Parts
 pub mod Capacity
 pub mod CapacityLaws
+pub mod Scratch
 pub mod Table
 pub mod Tree
 pub mod Line

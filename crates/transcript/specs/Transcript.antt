@@ -8,6 +8,7 @@ use Rattle.laws.specs.Test.{pick}
 use Rattle.lines.specs.Line.{headerLine, endLine}
 use Rattle.layer.specs.Layout.{fieldStride, numberStride, entryStride}
 use Rattle.table.specs.Parts.{Parts, partsOf}
+use Rattle.table.specs.Scratch.{leastScratch}
 use Rattle.tally.specs.Layout.{tallyLength}
 use Rattle.sequence.specs.Run.{start}
 use Rattle.turn.specs.Session.{Session, stepOf}
@@ -33,7 +34,7 @@ readFrom (suc n) log scratch s = pick (s .on) (before (stepOf log scratch s .tex
 unfoldable pub readLog : List ℕ → List ℕ → Session → Reached
 readLog log scratch s = readFrom (suc (length log)) log scratch s
 
--- the program's capacity, and the parts and the tally that it lends
+-- the program's capacity, and the parts, the tally and the scratch that it lends
 abbrev pub rows : ℕ
 rows = 128
 
@@ -44,7 +45,7 @@ abbrev pub lentTally : List ℕ
 lentTally = replicate tallyLength 0
 
 abbrev pub scratch : List ℕ
-scratch = replicate rows 0
+scratch = replicate leastScratch 0
 
 -- before the first field, which has ordinal 1
 abbrev pub opening : Session

@@ -9,6 +9,7 @@ use lines::end_line;
 use lines::header;
 use set_up::Made;
 use set_up::set_up;
+use table::scratch::LEAST_SCRATCH;
 use tally::layout::ENTRIES as COUNTS;
 use turn::Reading;
 use turn::take_turn;
@@ -83,7 +84,7 @@ pub fn transcribe(log: &[u8], out: &mut [u8]) -> usize
     let mut levels = [0i32; ROWS];
     let mut ancestors = [0u16; ROWS * ENTRIES];
     let mut tally = [0u16; COUNTS];
-    let scratch = [0u16; ROWS];
+    let scratch = [0u16; LEAST_SCRATCH];
     let Made::Empty(state) = set_up(
         &mut fields,
         &mut numbers,

@@ -16,7 +16,7 @@ use Rattle.plain_list.specs.PlainList.{PlainList, countOf, withLeaf, withFirst,
 use Rattle.plain_list.specs.PlainListLaws.{node-count, root-count}
 use Rattle.plain_list.specs.PlainStep.{leaf as plainLeaf, root as plainRoot, question as plainQuestion, alike as plainAlike}
 use Rattle.plain_list.specs.PlainStep.{PlainReply, refusal as plainRefusal, node as plainNode, answered as plainAnswered, same as plainSame}
-use Rattle.plain_list.specs.PlainStep.{PlainOutcome, replies, refusalOf, unless, grows, isLabel, isFace, isOpening, hasRoom, bothKnown, rootIn, asked as askedOf, plainOutcome}
+use Rattle.plain_list.specs.PlainStep.{PlainOutcome, replies, refusalOf, unless, grows, isLabel, isFace, isOpening, fitsGrowth, hasRoom, bothKnown, rootIn, asked as askedOf, plainOutcome}
 use Rattle.plain_list.specs.StoredList.{StoredList}
 use Rattle.sequence.specs.Calls.{Call, leaf, root, question, alike, told, Reply, refusal, node}
 use Rattle.sequence.specs.Run.{Fast, tableIn, Turn, step, run, rowsIn, totalIn}
@@ -42,7 +42,7 @@ data GrowthOutcome (p : PlainList) : PlainOutcome → Type 0 where
 module _ (c : ℕ) (p : PlainList) where
   leaf-outcome : (v l f s : ℕ) → GrowthOutcome p (plainOutcome c p (plainLeaf v l f s))
   unfolding plainOutcome
-  leaf-outcome v l f s = go (eqb s c) (ltb v (countOf p)) (isLabel l) (isFace f) (hasRoom c p)
+  leaf-outcome v l f s = go (fitsGrowth s) (ltb v (countOf p)) (isLabel l) (isFace f) (hasRoom c p)
     where
       go : (a b d g e : Bool) → GrowthOutcome p (unless a 3 p (unless b 1 p (unless d 5 p (unless g 13 p (unless e 2 p (grows p (withLeaf p v l f)))))))
       go false b d g e = not-grown 3
@@ -54,7 +54,7 @@ module _ (c : ℕ) (p : PlainList) where
 
   root-outcome : (named : Bool) (opening s : ℕ) → GrowthOutcome p (plainOutcome c p (plainRoot named opening s))
   unfolding plainOutcome
-  root-outcome named opening s = go (eqb s c) (isOpening named opening) (hasRoom c p) (eqb (countOf p) 0)
+  root-outcome named opening s = go (fitsGrowth s) (isOpening named opening) (hasRoom c p) (eqb (countOf p) 0)
     where
       go : (a b d e : Bool)
           → GrowthOutcome p (unless a 3 p (unless b 5 p (unless d 2 p (pick e (grows p (withFirst p)) (grows p (withRoot p (rootIn p 0) named opening))))))

@@ -26,6 +26,7 @@ use link::Joined;
 use link::Linked;
 use link::link;
 use table::refusal::number_of;
+use table::scratch::LEAST_SCRATCH;
 use table::state::State;
 
 // Both sides, and the rows renumbered and the joinings so far.
@@ -165,7 +166,7 @@ fn of_link(found: Linked) -> Found {
     }
 }
 
-// The call on the engine's table.
+// The call on the engine's table. A growth is lent the shortest scratch that fits, a link the table's.
 fn make(
     fields: &mut [u16],
     numbers: &mut [u64],
@@ -176,6 +177,7 @@ fn make(
     state: State,
     call: Call,
 ) -> Found {
+    let short = [7u16; LEAST_SCRATCH];
     match call {
         Call::First => of_growth(add_first(
             fields,
@@ -183,7 +185,7 @@ fn make(
             levels,
             ancestors,
             tally,
-            scratch,
+            &short,
             state,
         )),
         Call::Root { named, opening } => of_growth(add_root(
@@ -192,7 +194,7 @@ fn make(
             levels,
             ancestors,
             tally,
-            scratch,
+            &short,
             state,
             named,
             opening,
@@ -203,7 +205,7 @@ fn make(
             levels,
             ancestors,
             tally,
-            scratch,
+            &short,
             state,
             x,
             named,
@@ -215,7 +217,7 @@ fn make(
             levels,
             ancestors,
             tally,
-            scratch,
+            &short,
             state,
             x,
             label,

@@ -98,13 +98,24 @@ fn root_on(scratch: &[u16]) -> u16 {
     }
 }
 
-fn root_two() -> u16 {
-    let scratch = [7u16; 2];
+fn root_short() -> u16 {
+    let scratch = [7u16; 31];
     root_on(&scratch)
 }
 
-fn root_short() -> u16 {
-    let scratch = [7u16; 1];
+fn root_fits() -> u16 {
+    let scratch = [7u16; 32];
+    root_on(&scratch)
+}
+
+fn root_long() -> u16 {
+    let scratch = [7u16; 33];
+    root_on(&scratch)
+}
+
+// One number to a row of the table, as a link and an inspection take it.
+fn root_two() -> u16 {
+    let scratch = [7u16; 2];
     root_on(&scratch)
 }
 
@@ -125,7 +136,9 @@ pub fn limits(checks: Checks) -> Checks {
     let b = noted(a, set_up_short() == 3, b'S', 243, 0);
     let c = noted(b, set_up_none() == 3, b'S', 0, 0);
     let d = noted(c, set_up_no_most() == 3, b'S', 244, 10000);
-    let e = noted(d, root_two() == 0, b'T', 2, 0);
-    let f = noted(e, root_short() == 3, b'T', 1, 0);
-    noted(f, ends_at_once(), b'E', 0, 0)
+    let e = noted(d, root_short() == 3, b'T', 31, 0);
+    let f = noted(e, root_fits() == 0, b'T', 32, 0);
+    let g = noted(f, root_long() == 0, b'T', 33, 0);
+    let h = noted(g, root_two() == 3, b'T', 2, 0);
+    noted(h, ends_at_once(), b'E', 0, 0)
 }

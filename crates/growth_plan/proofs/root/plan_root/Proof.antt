@@ -1,5 +1,5 @@
 -- `plan_root`: the refusals in their order.
-use Rattle.growth_plan.specs.PlanLaws.{holds, root-read, root-misfit, root-scratch, root-label, root-full, root-fallen, root-first, root-lost, root-row}
+use Rattle.growth_plan.specs.PlanLaws.{holds, root-read, root-misfit, root-label, root-full, root-fallen, root-first, root-lost, root-row}
 use Rattle.table.specs.Parts.{partsOf}
 use borrow.Author.Tests.{not-true, not-false}
 use mathlib.Core.Path.{_∙_, sym}
@@ -17,31 +17,28 @@ enum-told : tie.Need-enum-told
 enum-told c = search needs
 
 returns : tie.Need-returns
-returns c = let a = c .before .before .before .before .before .before .before .args in root-misfit (partsOf (a .fields .now) (a .numbers .now) (a .levels .now) (a .ancestors .now)) _ (a .state) (a .named) (a .opening) (sym (c .enum-told .given .1) ∙ c .before .before .capacity .ensures)
-
-returns-2 : tie.Need-returns-2
-returns-2 c = let a = c .before .before .before .before .before .before .before .before .before .args in root-scratch (partsOf (a .fields .now) (a .numbers .now) (a .levels .now) (a .ancestors .now)) _ (a .state) (a .named) (a .opening) _ (sym (c .before .before .cap .given .1) ∙ c .before .before .before .before .capacity .ensures) (c .if1 .taken)
+returns c = let a = c .before .before .before .before .before .before .args in root-misfit (partsOf (a .fields .now) (a .numbers .now) (a .levels .now) (a .ancestors .now)) (a .state) (a .named) (a .opening) (sym (c .enum-told .given .1) ∙ c .before .before .capacity .ensures)
 
 is-opening-requires : tie.Need-is-opening-requires
 is-opening-requires c κs = search needs
 
+returns-2 : tie.Need-returns-2
+returns-2 c = let a = c .before .before .before .before .before .before .before .before .before .args in root-label (partsOf (a .fields .now) (a .numbers .now) (a .levels .now) (a .ancestors .now)) (a .state) (a .named) (a .opening) _ (sym (c .before .before .before .cap .given .1) ∙ c .before .before .before .before .before .capacity .ensures) (sym (c .before .is-opening .ensures) ∙ not-true _ (c .if1 .taken))
+
+cast-if2 : tie.Need-cast-if2
+cast-if2 c = search needs
+
 returns-3 : tie.Need-returns-3
-returns-3 c = let a = c .before .before .before .before .before .before .before .before .before .before .before .args in root-label (partsOf (a .fields .now) (a .numbers .now) (a .levels .now) (a .ancestors .now)) _ (a .state) (a .named) (a .opening) _ (sym (c .before .before .before .before .cap .given .1) ∙ c .before .before .before .before .before .before .capacity .ensures) (c .before .before .if1 .left) (sym (c .before .is-opening .ensures) ∙ not-true _ (c .if2 .taken))
-
-cast-if3 : tie.Need-cast-if3
-cast-if3 c = search needs
-
-returns-4 : tie.Need-returns-4
-returns-4 c = let a = c .before .before .before .before .before .before .before .before .before .before .before .before .before .args in root-full (partsOf (a .fields .now) (a .numbers .now) (a .levels .now) (a .ancestors .now)) _ (a .state) (a .named) (a .opening) _ (sym (c .before .before .before .before .before .before .cap .given .1) ∙ c .before .before .before .before .before .before .before .before .capacity .ensures) (c .before .before .before .before .if1 .left) (sym (c .before .before .before .is-opening .ensures) ∙ not-false _ (c .before .before .if2 .left)) (c .if3 .taken)
+returns-3 c = let a = c .before .before .before .before .before .before .before .before .before .before .before .args in root-full (partsOf (a .fields .now) (a .numbers .now) (a .levels .now) (a .ancestors .now)) (a .state) (a .named) (a .opening) _ (sym (c .before .before .before .before .before .cap .given .1) ∙ c .before .before .before .before .before .before .before .capacity .ensures) (sym (c .before .before .before .is-opening .ensures) ∙ not-false _ (c .before .before .if1 .left)) (c .if2 .taken)
 
 is-standing-requires : tie.Need-is-standing-requires
 is-standing-requires c κs = search needs
 
-returns-5 : tie.Need-returns-5
-returns-5 c = let a = c .before .before .before .before .before .before .before .before .before .before .before .before .before .before .before .args in root-fallen (partsOf (a .fields .now) (a .numbers .now) (a .levels .now) (a .ancestors .now)) _ (a .state) (a .named) (a .opening) _ (sym (c .before .before .before .before .before .before .before .before .cap .given .1) ∙ c .before .before .before .before .before .before .before .before .before .before .capacity .ensures) (c .before .before .before .before .before .before .if1 .left) (sym (c .before .before .before .before .before .is-opening .ensures) ∙ not-false _ (c .before .before .before .before .if2 .left)) (c .before .before .if3 .left) (sym (c .before .is-standing .ensures) ∙ not-true _ (c .if4 .taken))
+returns-4 : tie.Need-returns-4
+returns-4 c = let a = c .before .before .before .before .before .before .before .before .before .before .before .before .before .args in root-fallen (partsOf (a .fields .now) (a .numbers .now) (a .levels .now) (a .ancestors .now)) (a .state) (a .named) (a .opening) _ (sym (c .before .before .before .before .before .before .before .cap .given .1) ∙ c .before .before .before .before .before .before .before .before .before .capacity .ensures) (sym (c .before .before .before .before .before .is-opening .ensures) ∙ not-false _ (c .before .before .before .before .if1 .left)) (c .before .before .if2 .left) (sym (c .before .is-standing .ensures) ∙ not-true _ (c .if3 .taken))
 
-returns-6 : tie.Need-returns-6
-returns-6 c = let a = c .before .before .before .before .before .before .before .before .before .before .before .before .before .before .before .before .before .args in root-first (partsOf (a .fields .now) (a .numbers .now) (a .levels .now) (a .ancestors .now)) _ (a .state) (a .named) (a .opening) _ (sym (c .before .before .before .before .before .before .before .before .before .before .cap .given .1) ∙ c .before .before .before .before .before .before .before .before .before .before .before .before .capacity .ensures) (c .before .before .before .before .before .before .before .before .if1 .left) (sym (c .before .before .before .before .before .before .before .is-opening .ensures) ∙ not-false _ (c .before .before .before .before .before .before .if2 .left)) (c .before .before .before .before .if3 .left) (sym (c .before .before .before .is-standing .ensures) ∙ not-false _ (c .before .before .if4 .left)) (c .if5 .taken)
+returns-5 : tie.Need-returns-5
+returns-5 c = let a = c .before .before .before .before .before .before .before .before .before .before .before .before .before .before .before .args in root-first (partsOf (a .fields .now) (a .numbers .now) (a .levels .now) (a .ancestors .now)) (a .state) (a .named) (a .opening) _ (sym (c .before .before .before .before .before .before .before .before .before .cap .given .1) ∙ c .before .before .before .before .before .before .before .before .before .before .before .capacity .ensures) (sym (c .before .before .before .before .before .before .before .is-opening .ensures) ∙ not-false _ (c .before .before .before .before .before .before .if1 .left)) (c .before .before .before .before .if2 .left) (sym (c .before .before .before .is-standing .ensures) ∙ not-false _ (c .before .before .if3 .left)) (c .if4 .taken)
 
 tree-of-requires : tie.Need-tree-of-requires
 tree-of-requires c κs = search needs
@@ -49,19 +46,19 @@ tree-of-requires c κs = search needs
 root-of-requires : tie.Need-root-of-requires
 root-of-requires c κs = search needs
 
-returns-7 : tie.Need-returns-7
-returns-7 c = let a = c .before .before .before .before .before .before .before .before .before .before .before .before .before .before .before .before .before .before .before .before .args in
+returns-6 : tie.Need-returns-6
+returns-6 c = let a = c .before .before .before .before .before .before .before .before .before .before .before .before .before .before .before .before .before .before .args in
     let r = root-read (a .fields .now) (a .ancestors .now) (a .state .count) 0 (c .before .before .tree-of .ensures) (c .before .root-of .ensures) in
-    root-lost (partsOf (a .fields .now) (a .numbers .now) (a .levels .now) (a .ancestors .now)) _ (a .state) (a .named) (a .opening) _ (sym (c .before .before .before .before .before .before .before .before .before .before .before .before .before .cap .given .1) ∙ c .before .before .before .before .before .before .before .before .before .before .before .before .before .before .before .capacity .ensures) (c .before .before .before .before .before .before .before .before .before .before .before .if1 .left) (sym (c .before .before .before .before .before .before .before .before .before .before .is-opening .ensures) ∙ not-false _ (c .before .before .before .before .before .before .before .before .before .if2 .left)) (c .before .before .before .before .before .before .before .if3 .left) (sym (c .before .before .before .before .before .before .is-standing .ensures) ∙ not-false _ (c .before .before .before .before .before .if4 .left)) (c .before .before .before .if5 .left) (sym r ∙ c .if6 .taken)
+    root-lost (partsOf (a .fields .now) (a .numbers .now) (a .levels .now) (a .ancestors .now)) (a .state) (a .named) (a .opening) _ (sym (c .before .before .before .before .before .before .before .before .before .before .before .before .cap .given .1) ∙ c .before .before .before .before .before .before .before .before .before .before .before .before .before .before .capacity .ensures) (sym (c .before .before .before .before .before .before .before .before .before .before .is-opening .ensures) ∙ not-false _ (c .before .before .before .before .before .before .before .before .before .if1 .left)) (c .before .before .before .before .before .before .before .if2 .left) (sym (c .before .before .before .before .before .before .is-standing .ensures) ∙ not-false _ (c .before .before .before .before .before .if3 .left)) (c .before .before .before .if4 .left) (sym r ∙ c .if5 .taken)
 
 plan-above-requires : tie.Need-plan-above-requires
-plan-above-requires c κs = let a = c .before .before .before .before .before .before .before .before .before .before .before .before .before .before .before .before .before .before .before .before .args in holds (partsOf (a .fields .now) (a .numbers .now) (a .levels .now) (a .ancestors .now)) _ (a .state) (sym (c .before .before .before .before .before .before .before .before .before .before .before .before .before .cap .given .1) ∙ c .before .before .before .before .before .before .before .before .before .before .before .before .before .before .before .capacity .ensures) (sym (c .before .before .before .before .before .before .is-standing .ensures) ∙ not-false _ (c .before .before .before .before .before .if4 .left))
+plan-above-requires c κs = let a = c .before .before .before .before .before .before .before .before .before .before .before .before .before .before .before .before .before .before .args in holds (partsOf (a .fields .now) (a .numbers .now) (a .levels .now) (a .ancestors .now)) _ (a .state) (sym (c .before .before .before .before .before .before .before .before .before .before .before .before .cap .given .1) ∙ c .before .before .before .before .before .before .before .before .before .before .before .before .before .before .capacity .ensures) (sym (c .before .before .before .before .before .before .is-standing .ensures) ∙ not-false _ (c .before .before .before .before .before .if3 .left))
 
-returns-8 : tie.Need-returns-8
-returns-8 c = let a = c .before .before .before .before .before .before .before .before .before .before .before .before .before .before .before .before .before .before .before .before .before .args in
+returns-7 : tie.Need-returns-7
+returns-7 c = let a = c .before .before .before .before .before .before .before .before .before .before .before .before .before .before .before .before .before .before .before .args in
     let r = root-read (a .fields .now) (a .ancestors .now) (a .state .count) 0 (c .before .before .before .tree-of .ensures) (c .before .before .root-of .ensures) in
     rw (r, c .before .before .before .tree-of .ensures) at (c .plan-above .ensures) ∙
-    root-row (partsOf (a .fields .now) (a .numbers .now) (a .levels .now) (a .ancestors .now)) _ (a .state) (a .named) (a .opening) _ (sym (c .before .before .before .before .before .before .before .before .before .before .before .before .before .before .cap .given .1) ∙ c .before .before .before .before .before .before .before .before .before .before .before .before .before .before .before .before .capacity .ensures) (c .before .before .before .before .before .before .before .before .before .before .before .before .if1 .left) (sym (c .before .before .before .before .before .before .before .before .before .before .before .is-opening .ensures) ∙ not-false _ (c .before .before .before .before .before .before .before .before .before .before .if2 .left)) (c .before .before .before .before .before .before .before .before .if3 .left) (sym (c .before .before .before .before .before .before .before .is-standing .ensures) ∙ not-false _ (c .before .before .before .before .before .before .if4 .left)) (c .before .before .before .before .if5 .left) (λ z. c .before .if6 .left (r ∙ z))
+    root-row (partsOf (a .fields .now) (a .numbers .now) (a .levels .now) (a .ancestors .now)) (a .state) (a .named) (a .opening) _ (sym (c .before .before .before .before .before .before .before .before .before .before .before .before .before .cap .given .1) ∙ c .before .before .before .before .before .before .before .before .before .before .before .before .before .before .before .capacity .ensures) (sym (c .before .before .before .before .before .before .before .before .before .before .before .is-opening .ensures) ∙ not-false _ (c .before .before .before .before .before .before .before .before .before .before .if1 .left)) (c .before .before .before .before .before .before .before .before .if2 .left) (sym (c .before .before .before .before .before .before .before .is-standing .ensures) ∙ not-false _ (c .before .before .before .before .before .before .if3 .left)) (c .before .before .before .before .if4 .left) (λ z. c .before .if5 .left (r ∙ z))
 
 pub plan-root-spec : {M : Type 1} → statement M
 plan-root-spec =
@@ -71,16 +68,15 @@ plan-root-spec =
     enum-known-cap
     enum-told
     returns
-    returns-2
     is-opening-requires
+    returns-2
+    cast-if2
     returns-3
-    cast-if3
-    returns-4
     is-standing-requires
+    returns-4
     returns-5
-    returns-6
     tree-of-requires
     root-of-requires
-    returns-7
+    returns-6
     plan-above-requires
-    returns-8)
+    returns-7)
