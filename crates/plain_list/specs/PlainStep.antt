@@ -83,7 +83,7 @@ leastScratch = 32
 abbrev pub fitsGrowth : ℕ → Bool
 fitsGrowth scratch = leb leastScratch scratch
 
--- a link and an inspection one number to a row of the capacity (02: "Other calls, hang too, keep theirs")
+-- a link and an inspection take one number to a row of the capacity, no more and no less (02: "Other calls, hang too, keep theirs")
 abbrev pub fitsTable : ℕ → ℕ → Bool
 fitsTable capacity scratch = eqb scratch capacity
 

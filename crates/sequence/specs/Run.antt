@@ -85,7 +85,7 @@ step f (question x y) = replies f (questionReply (ask (f .parts) (f .state) x y)
 step f (alike x y) = replies f (alikeReply (compare (f .parts) (f .state) x y))
 step f (inspection s) = replies f (inspectionReply (inspect (f .parts) (f .tally) (length s) (f .state)))
 
--- the calls one after another, each on what the one before left: every turn
+-- every turn of a list of calls, each on what the one before left
 unfoldable pub turns : Fast → List Call → List Turn
 turns f [] = []
 turns f (q ∷ qs) = step f q ∷ turns (step f q .after) qs
@@ -95,7 +95,7 @@ pub record Run : Type 0 where
   pub replies : List Reply
   pub last : Fast
 
--- the same calls
+-- the calls one after another, each on what the one before left
 unfoldable pub run : Fast → List Call → Run
 run f [] = record { replies = []; last = f }
 run f (q ∷ qs) = let rest = run (step f q .after) qs in record { replies = step f q .reply ∷ rest .replies; last = rest .last }
