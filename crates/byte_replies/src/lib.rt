@@ -1,4 +1,7 @@
 // The replies of byte trees: values as bytes, low byte first.
+
+#![tactic(auto)]
+
 ghost use Rattle.std.specs.Prelude.{◌≡◌, length};
 ghost use Rattle.growth.specs.Outcome.{outcome_of as growthOf};
 ghost use Rattle.query.specs.Outcome.{outcome_of};

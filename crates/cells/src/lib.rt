@@ -1,4 +1,7 @@
 // Cells: a lent list of 16-bit numbers, read and stored at any place. A scratch is one, with a cell to a row; a tally is one, with a cell to a label.
+
+#![tactic(auto)]
+
 ghost use Rattle.std.specs.Prelude.{◌≡◌, get_or, length, replicate, set};
 
 // Cell x; past the end it reads as 0.

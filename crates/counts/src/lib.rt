@@ -1,4 +1,7 @@
 // Counts of rows in 16 bits.
+
+#![tactic(auto)]
+
 ghost use Rattle.std.specs.Prelude.{◌≡◌, ◌-◌, ◌*◌};
 ghost use Rattle.counts.specs.Count.{one_more, steps_of};
 

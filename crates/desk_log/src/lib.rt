@@ -1,4 +1,7 @@
 // The log reader for a C host, as include/vundreli.h declares it: what stands at a place of a log, and the place after it.
+
+#![tactic(auto)]
+
 ghost use Rattle.std.specs.Prelude.{◌≡◌, [], ◌∷◌, length};
 ghost use Rattle.log.specs.Outcome.{outcome_of};
 ghost use Rattle.log.specs.Field.{next_at};

@@ -1,5 +1,8 @@
 // The table form for a C host, as include/vundreli.h declares it: the calls that only read a table. The lent parts are handed over as they are, the count by
 // value. A slice is a pointer and a count.
+
+#![tactic(auto)]
+
 ghost use Rattle.std.specs.Prelude.{◌≡◌};
 ghost use Rattle.table.specs.Parts.{parts_of};
 ghost use Rattle.replies.specs.Reply.{state_of, reply};

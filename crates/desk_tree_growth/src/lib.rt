@@ -1,5 +1,8 @@
 // Byte trees of capacity 128 for a C host, as include/vundreli.h declares them: the growths. The bytes are read into a table and a tally on the stack,
 // and written back where the growth was served.
+
+#![tactic(auto)]
+
 ghost use Rattle.std.specs.Prelude.{◌≡◌, length};
 ghost use Rattle.table.specs.Parts.{parts_of};
 ghost use Rattle.table.specs.Capacity.{Fits};

@@ -1,5 +1,8 @@
 // Byte trees of capacity 128 for a C host, as include/vundreli.h declares them: set-up and the question. The bytes are read into a table on the stack,
 // for set-up into a tally too, and written back where it was served.
+
+#![tactic(auto)]
+
 ghost use Rattle.std.specs.Prelude.{◌≡◌, length};
 ghost use Rattle.table.specs.Parts.{parts_of};
 ghost use Rattle.table.specs.Capacity.{Fits};

@@ -1,4 +1,7 @@
 // The log program (01, "Program and figures to check"): a log from the first 16,384 bytes of standard input, its lines on standard output.
+
+#![tactic(auto)]
+
 ghost use Rattle.std.specs.Prelude.{◌≡◌, length};
 
 use libc::{STDIN_FILENO, STDOUT_FILENO};

@@ -1,4 +1,7 @@
 // Inspection of a layer: of rule 1 the trees, and rules 2 to 6.
+
+#![tactic(auto)]
+
 ghost use Rattle.std.specs.Prelude.{◌≡◌, ◌≤◌, length};
 ghost use Rattle.layer.specs.Layer.{layer_of};
 ghost use Rattle.layer.specs.Numbered.{row_limit};

@@ -1,4 +1,7 @@
 // Inspection of a tally: the labels of all rows are counted anew, and every entry is compared.
+
+#![tactic(auto)]
+
 ghost use Rattle.std.specs.Prelude.{◌≡◌, ℕ, length, get_or};
 ghost use Rattle.tally.specs.Layout.{label_count, tally_length};
 ghost use Rattle.tally.specs.Test.{are_counts, is_tallied};

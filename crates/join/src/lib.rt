@@ -1,4 +1,7 @@
 // A row that stands alone joins under a row: its seat is found, which only reads, then it is stored. No labels, levels or roots.
+
+#![tactic(auto)]
+
 pub mod attach;
 mod chain;
 mod check_walk;

@@ -1,4 +1,7 @@
 // The lines that the log program prints (document 01, "Program and figures to check").
+
+#![tactic(auto)]
+
 mod bytes;
 mod decimal;
 

@@ -1,4 +1,7 @@
 // A link: a whole tree, by its root, under a row of another one.
+
+#![tactic(auto)]
+
 ghost use Rattle.table.specs.Parts.{parts_of};
 ghost use Rattle.link.specs.Link.{LinkCall};
 

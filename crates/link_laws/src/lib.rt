@@ -1,1 +1,4 @@
 // Laws only: a tree linked under a row of another tree, as a relation between tables.
+
+#![tactic(auto)]
+

@@ -1,4 +1,7 @@
 // What a link decides before its first store: its refusals in their order.
+
+#![tactic(auto)]
+
 ghost use Rattle.std.specs.Prelude.{◌≡◌, length};
 ghost use Rattle.table.specs.Parts.{parts_of};
 ghost use Rattle.link_plan.specs.Check.{link_checked};

@@ -1,4 +1,7 @@
 // The stores of a link: the rows of the linked tree sorted by their depth, detached, and joined one after another. Nothing is refused here.
+
+#![tactic(auto)]
+
 ghost use Rattle.std.specs.Prelude.{◌≡◌, ◌≤◌, length};
 ghost use Rattle.table.specs.Parts.{parts_of};
 ghost use Rattle.table.specs.Capacity.{node_limit};

@@ -1,4 +1,7 @@
 // The log reader (document 01, "The log"): the field at a place of a log, and its body as a part of the log itself.
+
+#![tactic(auto)]
+
 mod bytes;
 
 ghost use Rattle.std.specs.Prelude.{◌≡◌};

@@ -1,5 +1,8 @@
 // The reader (document 01, "The reader keeps the log and how far it has read"): a struct that holds the log and a place in it.
 // Its functions are thin: each takes the struct apart and calls one of `log` on the slice and the number. Their proofs are walks by hand.
+
+#![tactic(auto)]
+
 ghost use Rattle.std.specs.Prelude.{◌≡◌};
 ghost use Rattle.log.specs.Outcome.{outcome_of};
 ghost use Rattle.log.specs.Field.{field_at};

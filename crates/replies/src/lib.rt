@@ -1,4 +1,7 @@
 // An answer as 0 and values in an out slice, or 01's refusal number and the out slice as it was.
+
+#![tactic(auto)]
+
 ghost use Rattle.std.specs.Prelude.{◌≡◌, [], ◌∷◌, pos, length};
 ghost use Rattle.laws.specs.Test.{bit};
 ghost use Rattle.set_up.specs.Outcome.{outcome_of as emptyOf};

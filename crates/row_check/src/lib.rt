@@ -1,4 +1,7 @@
 // A row read whole, and the check of refusal 4 on it: that it is in use, and on all that it holds.
+
+#![tactic(auto)]
+
 ghost use Rattle.std.specs.Prelude.{◌≡◌};
 ghost use Rattle.layer.specs.Row.{Within, row_of};
 ghost use Rattle.layer.specs.Sound.{is_sound};

@@ -1,4 +1,7 @@
 // An empty table in lent parts of one capacity.
+
+#![tactic(auto)]
+
 ghost use Rattle.std.specs.Prelude.{◌≡◌, length, pos};
 ghost use Rattle.laws.specs.Tabulate.{tabulate};
 ghost use Rattle.table.specs.Parts.{parts_of};

@@ -1,1 +1,4 @@
 // Laws only: the lines, levels and roots of a table that passes inspection.
+
+#![tactic(auto)]
+

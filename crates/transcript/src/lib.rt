@@ -1,4 +1,7 @@
 // All that the log program prints for a log: header, a line to each field that prints one, and the last line.
+
+#![tactic(auto)]
+
 mod buffer;
 
 ghost use Rattle.std.specs.Prelude.{◌≡◌, ◌++◌, ◌+◌, ◌*◌, ◌≤◌, length, take};

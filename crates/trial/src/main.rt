@@ -1,5 +1,8 @@
 // The engine against a naive parent walk (01, "Guarantees in writing", d): trees of several shapes, and several trees, at capacity 128, every pair asked,
 // inspection and a full count of labels after each growth, and 01's other cases that need no large table.
+
+#![tactic(auto)]
+
 use crate::checks::{Checks, noted};
 use crate::compare::ask_all;
 use crate::grow::{Run, grow_all};

@@ -1,4 +1,7 @@
 // One field of a log: its line, and what stands after it.
+
+#![tactic(auto)]
+
 ghost use Rattle.std.specs.Prelude.{◌≡◌, List, ℕ, ◌+◌, ◌≤◌};
 ghost use Rattle.table.specs.Parts.{Parts, parts_of};
 ghost use Rattle.report.specs.Report.{report_of};

@@ -1,5 +1,8 @@
 // Whether a run of bytes is all zeros. Most of a quiet day's log is filler: eight bytes are taken as one word, four words to a turn of the loop, the last
 // few singly.
+
+#![tactic(auto)]
+
 ghost use Rattle.std.specs.Prelude.{◌≡◌, ◌+◌, ◌≤◌, length, drop};
 ghost use Rattle.zeros.specs.Zeros.{all_zero, zeros_at};
 ghost use Rattle.zeros.specs.Passed.{Passed};
