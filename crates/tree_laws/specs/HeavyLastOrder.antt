@@ -15,6 +15,7 @@ pub record ReadFrom (k : Links) (v w : ℕ) : Type 0 where
   pub reads : Reads k v w kin
 
 pub in_read : {k : Links} {v c w : ℕ} {f : Kin} → Reads k v c f → In f w → ReadFrom k (k.parent w) w
+in_read (stop _) i = elim i [ ]
 in_read {c = c} (more {kids = kids} {rest} d e p q) (inl z) = rw (z, e) record { some = d; kin = node c kids rest; reads = more d e p q }
 in_read (more d e p q) (inr (inl z)) = in_read p z
 in_read (more d e p q) (inr (inr z)) = in_read q z
