@@ -1,0 +1,18 @@
+-- `end_line` writes the last line part by part.
+use Rattle.lines.specs.LineLaws.{end_written}
+use Rattle.lines.proofs.end_line.Goals as goal
+
+pub returns : goal.returns
+returns c = let s = c in
+    end_written c.put_byte.result s.args.count s.args.total s.ranges.count.fits s.ranges.total.fits
+    (simp (
+      c.put_byte.ensures,
+      c.put_number-t-2.ensures,
+      c.put_byte-t-5.ensures,
+      c.put_number-t.ensures,
+      c.put_byte-t-4.ensures,
+      c.put_byte-t-3.ensures,
+      c.put_byte-t-2.ensures,
+      c.put_byte-t.ensures,
+      c.empty.ensures,
+    ))

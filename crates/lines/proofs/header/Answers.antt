@@ -1,0 +1,17 @@
+-- `header` writes the first line byte by byte.
+use Rattle.lines.specs.LineLaws.{header_written}
+use Rattle.lines.proofs.header.Goals as goal
+
+pub returns : goal.returns
+returns c = let s = c in
+    header_written c.put_byte.result s.args.capacity s.ranges.capacity.fits
+    (simp (
+      c.put_byte.ensures,
+      c.put_number-t.ensures,
+      c.put_byte-t-5.ensures,
+      c.put_byte-t-4.ensures,
+      c.put_byte-t-3.ensures,
+      c.put_byte-t-2.ensures,
+      c.put_byte-t.ensures,
+      c.empty.ensures,
+    ))

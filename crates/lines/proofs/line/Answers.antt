@@ -1,0 +1,18 @@
+-- `line` writes the line of a field part by part.
+use Rattle.lines.specs.LineLaws.{line_written}
+use Rattle.lines.proofs.Values.{values_small}
+use Rattle.lines.proofs.line.Goals as goal
+
+pub returns : goal.returns
+returns c = let s = c in
+    let a = s.args in
+    let g = s.well-formed.1.1.0.1 in
+    line_written c.put_byte.result a.ordinal a.letter a.values a.count s.ranges.ordinal.fits g.0.1 (values_small a.values _ g.1)
+    (simp (
+      c.put_byte.ensures,
+      c.put_values-t.ensures,
+      c.put_byte-t-2.ensures,
+      c.put_byte-t.ensures,
+      c.put_number-t.ensures,
+      c.empty.ensures,
+    ))
