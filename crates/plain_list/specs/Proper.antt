@@ -130,4 +130,4 @@ module _ {capacity : ℕ} (most : capacity ≤ none) where
   pub proper_run : {p : PlainList} → Proper capacity p → (qs : List PlainCall) → Proper capacity (plain_run capacity p qs).last
   unfolding plain_run
   proper_run t [] = t
-  proper_run t (q ∷ qs) = proper_run (proper_call t q) qs
+  proper_run {p} t (q ∷ qs) = proper_run {p = plain_after capacity p q} (proper_call t q) qs
