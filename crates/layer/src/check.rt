@@ -6,5 +6,5 @@ ghost use Rattle.layer.specs.Sound.{is_link};
 pub fn is_link(x: u16, count: u16) -> bool
     ensures { result ≡ is_link count x }
 {
-    std::num::wrapping_add_u16(x, 1) <= count
+    x.wrapping_add(1) <= count
 }

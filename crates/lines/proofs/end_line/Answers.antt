@@ -3,8 +3,7 @@ use Rattle.lines.specs.LineLaws.{end_written}
 use Rattle.lines.proofs.end_line.Goals as goal
 
 pub returns : goal.returns
-returns c = let s = c in
-    end_written c.put_byte.result s.args.count s.args.total s.ranges.count.fits s.ranges.total.fits
+returns c = let both = end_written c.put_byte.result c.args.count c.args.total c.ranges.count.fits c.ranges.total.fits
     (simp (
       c.put_byte.ensures,
       c.put_number-t-2.ensures,
@@ -15,4 +14,4 @@ returns c = let s = c in
       c.put_byte-t-2.ensures,
       c.put_byte-t.ensures,
       c.empty.ensures,
-    ))
+    )) in record { text = both.0; fits = both.1 }

@@ -3,8 +3,7 @@ use Rattle.lines.specs.LineLaws.{header_written}
 use Rattle.lines.proofs.header.Goals as goal
 
 pub returns : goal.returns
-returns c = let s = c in
-    header_written c.put_byte.result s.args.capacity s.ranges.capacity.fits
+returns c = let both = header_written c.put_byte.result c.args.capacity c.ranges.capacity.fits
     (simp (
       c.put_byte.ensures,
       c.put_number-t.ensures,
@@ -14,4 +13,4 @@ returns c = let s = c in
       c.put_byte-t-2.ensures,
       c.put_byte-t.ensures,
       c.empty.ensures,
-    ))
+    )) in record { text = both.0; fits = both.1 }

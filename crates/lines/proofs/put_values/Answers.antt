@@ -18,25 +18,24 @@ loop-i-init c = (omega arith, refl)
 pub returns-then-i-count : goal.returns-then-i-count
 returns-then-i-count c = let a = c.args in
     let l = c.loop-i in
-    sym (append_no_values a.t2 a.count l.i l.t (omega (arith, length-take a.count a.t2))) ∙ l.invariant.1
+    sym (append_no_values a.values a.count l.i l.t (omega (arith, length-take a.count a.values))) ∙ l.invariant.1
 
 pub loop-i-smaller : goal.loop-i-smaller
 loop-i-smaller c = omega arith
 
 pub loop-i-preserved : goal.loop-i-preserved
-loop-i-preserved c = let s = c in
-    let a = s.args in
+loop-i-preserved c = let a = c.args in
     let l = c.loop-i in
-    let e = to_z-of_z w32 (get_or a.t2 l.i (pos 0)) (record { sfits = c.put_signed-arg-1.given }) in
+    let e = to_z-of_z w32 (get_or a.values l.i (pos 0)) (record { sfits = c.put_signed-arg-1.given }) in
     let turn = rw (e, c.put_byte.ensures) at c.put_signed-t.ensures in (
       omega arith,
-      ap (λ (t : Text). append t (values_of (drop (l.i + 1) (take a.count a.t2)))) turn
-          ∙ append_values a.t2 a.count l.i l.t (omega arith) (omega (arith, s.well-formed.1.0.1.0.1))
+      ap (λ (t : Text). append t (values_of (drop (l.i + 1) (take a.count a.values)))) turn
+          ∙ append_values a.values a.count l.i l.t (omega arith) (omega (arith, c.well_formed.1.0.1.0.1))
           ∙ l.invariant.1,
     )
 
 pub returns : goal.returns
 returns c = let a = c.args in
     let l = c.loop-i in
-    let six = c.well-formed.1.0.1.0.1 in
-    sym (append_no_values a.t2 a.count l.i l.t (omega (arith, length-take a.count a.t2, six))) ∙ l.invariant.1
+    let six = c.well_formed.1.0.1.0.1 in
+    sym (append_no_values a.values a.count l.i l.t (omega (arith, length-take a.count a.values, six))) ∙ l.invariant.1

@@ -17,12 +17,12 @@ overflow_add-result c = omega (arith, c.reached.ensures, bit_le (leb c.power.res
 
 pub overflow_add-result-2 : goal.overflow_add-result-2
 overflow_add-result-2 c = omega (
-      arith,
-      c.reached.ensures,
-      bit_le (leb c.power.result c.args.distance),
-      c.reached-2.ensures,
-      bit_le (leb c.power-2.result c.args.distance),
-    )
+  arith,
+  c.reached.ensures,
+  bit_le (leb c.power.result c.args.distance),
+  c.reached-2.ensures,
+  bit_le (leb c.power-2.result c.args.distance),
+)
 
 pub returns : goal.returns
 returns c = rw (c.reached.ensures, c.reached-2.ensures)

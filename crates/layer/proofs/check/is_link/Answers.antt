@@ -5,12 +5,11 @@ use Rattle.laws.specs.Test.{says_eq, says_leb}
 use Rattle.tree_laws.specs.Ancestor.{none}
 use Rattle.layer.specs.Sound.{Link, is_link}
 use Rattle.layer.specs.SoundLaws.{says_link}
-use Rattle.layer.proofs.check.is_link.Statement.{statement}
-use Rattle.layer.proofs.check.is_link.Tie as tie
+use Rattle.layer.proofs.check.is_link.Goals as goal
 
 -- the number after a link
-link-next : (n x : ℕ) → x < 2 ^ 16 → leb ((x + 1) % 2 ^ 16) n ≡ is_link n x
-link-next n x h = says_eq to from (says_leb ((x + 1) % 2 ^ 16) n) (says_link n x)
+link_next : (n x : ℕ) → x < 2 ^ 16 → leb ((x + 1) % 2 ^ 16) n ≡ is_link n x
+link_next n x h = says_eq to from (says_leb ((x + 1) % 2 ^ 16) n) (says_link n x)
   where
     to : (x + 1) % 2 ^ 16 ≤ n → Link n x
     to l = elim (ℕ_discrete x none) [ yes e ↦ inl e | no d ↦ inr (omega arith) ]
@@ -19,11 +18,5 @@ link-next n x h = says_eq to from (says_leb ((x + 1) % 2 ^ 16) n) (says_link n x
     from (inl e) = omega arith
     from (inr l) = omega arith
 
-wrapping-add-u16-requires : tie.Need-wrapping-add-u16-requires
-wrapping-add-u16-requires c κs = search rules
-
-returns : tie.Need-returns
-returns c = rw c.wrapping-add-u16.ensures (link-next c.before.args.count c.before.args.x (search rules))
-
-pub is-link-spec : {M : Type 1} → statement M
-is-link-spec = tie.close (tie.spec wrapping-add-u16-requires returns)
+pub returns : goal.returns
+returns c = link_next c.args.count c.args.x (omega arith)
