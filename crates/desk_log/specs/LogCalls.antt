@@ -1,7 +1,7 @@
 -- The log reader for a C host: a field as numbers in an out slice. A misfit of the out slice is looked for first.
 use Rattle.std.specs.Prelude.{List, [], ◌∷◌, ℕ, get_or}
-use Rattle.log.specs.Outcome.{Outcome, end, refusal, field}
-use Rattle.log.specs.Field.{field_at}
+use Rattle.log_fields.specs.Outcome.{Outcome, end, refusal, field}
+use Rattle.log_fields.specs.Field.{field_at}
 use Rattle.replies.specs.Reply.{Reply, reply, misfit, on_length}
 
 -- the kind, 0 at the log's end, and three values, 0 where the field has fewer

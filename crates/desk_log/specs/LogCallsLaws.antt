@@ -1,7 +1,7 @@
 -- The call by whether the out slice has its length.
 use Rattle.std.specs.Prelude.{◌≡◌, ◌≢◌, List, ℕ, length}
-use Rattle.log.specs.Outcome.{Outcome}
-use Rattle.log.specs.Field.{field_at}
+use Rattle.log_fields.specs.Outcome.{Outcome}
+use Rattle.log_fields.specs.Field.{field_at}
 use Rattle.replies.specs.Reply.{reply, misfit}
 use Rattle.replies.specs.ReplyLaws.{on_length_lem, off_length}
 use Rattle.desk_log.specs.LogCalls.{field_reply, field_call}

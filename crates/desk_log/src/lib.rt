@@ -3,12 +3,12 @@
 #![tactic(auto)]
 
 ghost use Rattle.std.specs.Prelude.{◌≡◌, [], ◌∷◌, length};
-ghost use Rattle.log.specs.Outcome.{outcome_of};
-ghost use Rattle.log.specs.Field.{next_at};
+ghost use Rattle.log_fields.specs.Outcome.{outcome_of};
+ghost use Rattle.log_fields.specs.Field.{next_at};
 ghost use Rattle.replies.specs.Reply.{reply};
 ghost use Rattle.desk_log.specs.LogCalls.{field_reply, field_call};
 
-use log::{Field, next_at};
+use log_fields::{Field, next_at};
 use reader::read_at;
 use table::refusal::{Refusal, number_of};
 

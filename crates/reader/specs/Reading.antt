@@ -1,7 +1,7 @@
 -- What a reader is at the start of a log, and once it has passed a field.
 use Rattle.std.specs.Prelude.{List, ℕ}
 use Rattle.std.specs.Borrow.{Bor}
-use Rattle.log.specs.Field.{next_at}
+use Rattle.log_fields.specs.Field.{next_at}
 use Rattle.reader.specs.declared.Reader.{Reader}
 
 -- a reader that has read nothing yet

@@ -4,12 +4,12 @@
 #![tactic(auto)]
 
 ghost use Rattle.std.specs.Prelude.{◌≡◌};
-ghost use Rattle.log.specs.Outcome.{outcome_of};
-ghost use Rattle.log.specs.Field.{field_at};
-ghost use Rattle.log.specs.Body.{IsBody};
+ghost use Rattle.log_fields.specs.Outcome.{outcome_of};
+ghost use Rattle.log_fields.specs.Field.{field_at};
+ghost use Rattle.log_fields.specs.Body.{IsBody};
 ghost use Rattle.reader.specs.Reading.{opened, passed};
 
-use log::{Field, body_at, field_at, next_at};
+use log_fields::{Field, body_at, field_at, next_at};
 
 #[derive(Drop)]
 pub struct Reader<'a> {

@@ -5,7 +5,7 @@ use Rattle.plain_list.specs.PlainList.{with_node}
 use Rattle.plain_list.specs.Naive.{naive_answer, naive_root}
 use Rattle.plain_list.specs.PlainStep.{plain_outcome, plain_run}
 use Rattle.sequence.specs.Calls.{leaf, root, question, told_all}
-use Rattle.log.specs.Field.{cut_short, next_at, body_at, field_at, whole_field}
+use Rattle.log_fields.specs.Field.{cut_short, next_at, body_at, field_at, whole_field}
 use Rattle.lines.specs.Bytes.{bytes_of}
 use Rattle.lines.specs.Decimal.{digits, digits_up_to}
 use Rattle.lines.specs.Line.{values_of, line_of, header_line, end_line}

@@ -5,10 +5,10 @@ use Rattle.std.proofs.Common.{sym, ◌∙◌, true≢false, arith}
 use Rattle.std.proofs.Math.Bool.{not}
 use Rattle.std.proofs.Math.Decide.{dec_lt, ℕ_discrete}
 use Rattle.laws.specs.Test.{pick, bit}
-use Rattle.log.specs.Outcome.{Outcome, end, refusal, field}
-use Rattle.log.specs.Bytes.{all_zero}
-use Rattle.log.specs.Field.{listed, fits, kind_of, values, whole_field as read_whole, body_at, next_at, field_at}
-use Rattle.log.specs.FieldLaws.{next_passes, field_end, field_stays, field_moves}
+use Rattle.log_fields.specs.Outcome.{Outcome, end, refusal, field}
+use Rattle.log_fields.specs.Bytes.{all_zero}
+use Rattle.log_fields.specs.Field.{listed, fits, kind_of, values, whole_field as read_whole, body_at, next_at, field_at}
+use Rattle.log_fields.specs.FieldLaws.{next_passes, field_end, field_stays, field_moves}
 use Rattle.turn.specs.Asked.{Asked, call, nothing, asked_by}
 use Rattle.turn.specs.Session.{Session, step_by, step_of, whole_field}
 

@@ -1,8 +1,8 @@
 -- The listing of a log by meaning (01, "Program and figures to check"): its fields, the plain list's replies to the calls that they ask for, and a line
 -- to each. The plain list does not tell how many rows a call renumbers, nor their head, so both are handed in. The head stands last in a line (02).
 use Rattle.std.specs.Prelude.{◌≡◌, true, List, [], ◌∷◌, ◌++◌, ◌≢◌, ℕ, ◌+◌, pos}
-use Rattle.log.specs.Outcome.{end, refusal as refused_at, field}
-use Rattle.log.specs.Field.{field_at}
+use Rattle.log_fields.specs.Outcome.{end, refusal as refused_at, field}
+use Rattle.log_fields.specs.Field.{field_at}
 use Rattle.lines.specs.Line.{header_line, end_line}
 use Rattle.plain_list.specs.PlainList.{PlainList, empty_list, count_of}
 use Rattle.plain_list.specs.PlainStep.{PlainReply, refusal as plain_refusal, node as plain_node, linked as plain_linked, answered as plain_answered, same as plain_same, passes as plain_passes}

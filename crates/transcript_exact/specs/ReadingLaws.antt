@@ -5,8 +5,8 @@ use Rattle.std.proofs.Common.{◌∙◌, ne_eqb}
 use Prim.Native.Nat.{ℕ, zero, suc, ◌+◌, ◌≤◌, ◌<◌}
 use Rattle.std.proofs.Math.Decide.{ℕ_discrete}
 use native.Mathlib.Omega.{arith}
-use Rattle.log.specs.Outcome.{Outcome, end, refusal as refused_at, field}
-use Rattle.log.specs.Field.{field_at}
+use Rattle.log_fields.specs.Outcome.{Outcome, end, refusal as refused_at, field}
+use Rattle.log_fields.specs.Field.{field_at}
 use Rattle.sequence.specs.Calls.{Call}
 use Rattle.sequence.specs.Run.{Fast, step, run, total_in}
 use Rattle.report.specs.Printed.{Printed, printed_by}

@@ -1,7 +1,7 @@
 // Cases of 01 beside the trees: parts that do not fit, and the empty log.
 use crate::checks::{Checks, noted};
 use growth::{Grown, add_root};
-use log::Field;
+use log_fields::Field;
 use reader::read_at;
 use set_up::{Made, set_up};
 use table::refusal::number_of;

@@ -1,7 +1,7 @@
 -- The fields of a log one after another (01, "Program and figures to check").
 use Rattle.std.specs.Prelude.{Bool, true, false, not, List, [], ℕ, ◌+◌, eqb, take}
-use Rattle.log.specs.Outcome.{Outcome, end, refusal, field}
-use Rattle.log.specs.Field.{field_at}
+use Rattle.log_fields.specs.Outcome.{Outcome, end, refusal, field}
+use Rattle.log_fields.specs.Field.{field_at}
 use Rattle.lines.specs.declared.Text.{Text}
 use Rattle.table.specs.Parts.{Parts}
 use Rattle.sequence.specs.Run.{Fast}

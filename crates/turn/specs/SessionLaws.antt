@@ -6,11 +6,11 @@ use Rattle.std.proofs.Math.Seq.{take-append_seam}
 use Rattle.lines.specs.declared.Text.{Text}
 use Rattle.lines.specs.Text.{text_of}
 use Rattle.lines.specs.Line.{line_of}
-use Rattle.log.specs.declared.Field.{Field}
-use Rattle.log.specs.declared.Field.TheVariants.{Root}
-use Rattle.log.specs.Outcome.{outcome_of}
-use Rattle.log.specs.OutcomeLaws.{named_told}
-use Rattle.log.specs.Field.{field_at}
+use Rattle.log_fields.specs.declared.Field.{Field}
+use Rattle.log_fields.specs.declared.Field.TheVariants.{Root}
+use Rattle.log_fields.specs.Outcome.{outcome_of}
+use Rattle.log_fields.specs.OutcomeLaws.{named_told}
+use Rattle.log_fields.specs.Field.{field_at}
 use Rattle.table.specs.Parts.{Parts}
 use Rattle.sequence.specs.Calls.{root}
 use Rattle.report.specs.declared.reply.Shown.{Shown}

@@ -9,7 +9,7 @@ ghost use Rattle.turn.specs.Bounds.{Grows, Small};
 ghost use Rattle.turn.specs.Session.{refused_field, reported, session_of, silent, step_of, turn_of};
 
 use lines::{Text, line};
-use log::Field;
+use log_fields::Field;
 use reader::read_at;
 use report::reply::refused;
 use report::serve::{Served, serve_alike, serve_leaf, serve_question, serve_root};

@@ -38,11 +38,11 @@ use denote.Triple.Table.{entered, cited}
 use denote.Triple.Walked.{says, Stays, stay_none, stay_none_slice, walk_of, Goes-none, Goes-none_slice, Walks, ends_at, walked, walk_Meets}
 use denote.Exit.{yes}
 use denote.Triple.Clauses.{ensured, lasts}
-use Rattle.log.specs.Outcome.{outcome_of}
-use Rattle.log.specs.Field.{field_at}
-use Rattle.log.specs.declared.Field.{Field}
-use Rattle.log.specs.contracts.Field as S
-use Rattle.log.proofs.Field.TheLaws as S'
+use Rattle.log_fields.specs.Outcome.{outcome_of}
+use Rattle.log_fields.specs.Field.{field_at}
+use Rattle.log_fields.specs.declared.Field.{Field}
+use Rattle.log_fields.specs.contracts.Field as S
+use Rattle.log_fields.proofs.Field.TheLaws as S'
 use Rattle.reader.specs.declared.Reader.{Reader}
 use Rattle.reader.specs.contracts.Reader as T
 use Rattle.reader.proofs.Reader.TheLaws as T'

@@ -1,4 +1,4 @@
--- `reader::Reader::body` meets its contract: a walk of its MIR, by hand. The struct is taken apart, and `log::body_at` is called on the slice and the number. All that the proof knows of `log::body_at` is that it meets its contract.
+-- `reader::Reader::body` meets its contract: a walk of its MIR, by hand. The struct is taken apart, and `log_fields::body_at` is called on the slice and the number. All that the proof knows of `log_fields::body_at` is that it meets its contract.
 -- The struct is Copy: what it owns is had twice, one copy is kept whole for the exit, and of the other what log owns goes to the callee, beside the lifetime's token, which comes back.
 -- Assumes nothing.
 use mathlib.Core.Path.{refl}
@@ -35,15 +35,15 @@ use denote.Triple.Table.{entered, cited}
 use denote.Triple.Walked.{says, Stays, stay_none, walk_of, Goes-none, Walks, ends_at, walked, walk_Meets}
 use denote.Exit.{yes}
 use denote.Triple.Clauses.{ensured, lasts}
-use Rattle.log.specs.Body.{IsBody}
+use Rattle.log_fields.specs.Body.{IsBody}
 use Rattle.reader.specs.declared.Reader.{Reader}
 use Rattle.reader.specs.contracts.Reader as T
 use Rattle.reader.proofs.Reader.TheLaws as T'
 use Rattle.reader.proofs.Apart.{B, D, L, Own, Entry, passed, apart}
-use Rattle.log.specs.contracts.body_at as callee
-use Rattle.log.proofs.body_at.Symbol as callee-def
-use Rattle.log.proofs.body_at.Symbol.{name as #log·body-at}
-use Rattle.log.proofs.body_at.Met as callee-thm
+use Rattle.log_fields.specs.contracts.body_at as callee
+use Rattle.log_fields.proofs.body_at.Symbol as callee-def
+use Rattle.log_fields.proofs.body_at.Symbol.{name as #log·body-at}
+use Rattle.log_fields.proofs.body_at.Met as callee-thm
 use Rattle.reader.specs.contracts.Reader.body.Key.{name as #reader·body}
 use Rattle.reader.specs.contracts.Reader.body as body
 use Rattle.reader.proofs.Reader.body.Statement as stated
@@ -139,4 +139,4 @@ body-spec 𝓤 𝓛 𝓜 𝓡 =
     entered 𝓤 𝓛.H (triple_of 𝓛 body.signature (body.spec 𝓛 𝓜.mem 𝓡.run))
     (tables 𝓤 𝓛.H 𝓜 𝓡 code.env).C (tables 𝓤 𝓛.H 𝓜 𝓡 code.env).Λ #reader·body code.function (code.unfolded 𝓤 𝓛.H 𝓜 𝓡)
     (body-meets 𝓛 𝓜.mem 𝓡.run (tables_of 𝓤 𝓛.H 𝓜 (tables 𝓤 𝓛.H 𝓜 𝓡 code.env))
-    (cited 𝓤 𝓛.H (BodyAt 𝓛 𝓜.mem 𝓡.run) 𝓜 𝓡 code.env #log·body-at callee-def.routine code.calls-log::body-at (callee-thm.met 𝓤 𝓛 𝓜 𝓡)))
+    (cited 𝓤 𝓛.H (BodyAt 𝓛 𝓜.mem 𝓡.run) 𝓜 𝓡 code.env #log·body-at callee-def.routine code.calls-log_fields::body-at (callee-thm.met 𝓤 𝓛 𝓜 𝓡)))

@@ -1,4 +1,4 @@
--- `reader::Reader::field` meets its contract: a walk of its MIR, by hand. The struct is taken apart, and `log::field_at` is called on the slice and the number. All that the proof knows of `log::field_at` is that it meets its contract.
+-- `reader::Reader::field` meets its contract: a walk of its MIR, by hand. The struct is taken apart, and `log_fields::field_at` is called on the slice and the number. All that the proof knows of `log_fields::field_at` is that it meets its contract.
 -- The struct is Copy: what it owns is had twice, one copy is kept whole for the exit, and of the other what log owns goes to the callee, beside the lifetime's token, which comes back.
 -- Assumes nothing.
 use mathlib.Core.Path.{◌≡◌, refl}
@@ -35,19 +35,19 @@ use denote.Triple.Table.{entered, cited}
 use denote.Triple.Walked.{says, Stays, stay_none, walk_of, Goes-none, Walks, ends_at, walked, walk_Meets}
 use denote.Exit.{yes}
 use denote.Triple.Clauses.{ensured, lasts}
-use Rattle.log.specs.Outcome.{Outcome, outcome_of}
-use Rattle.log.specs.Field.{field_at}
+use Rattle.log_fields.specs.Outcome.{Outcome, outcome_of}
+use Rattle.log_fields.specs.Field.{field_at}
 use Rattle.reader.specs.declared.Reader.{Reader}
-use Rattle.log.specs.declared.Field.{Field}
+use Rattle.log_fields.specs.declared.Field.{Field}
 use Rattle.reader.specs.contracts.Reader as T
 use Rattle.reader.proofs.Reader.TheLaws as T'
 use Rattle.reader.proofs.Apart.{B, D, L, Own, Entry, passed, apart}
-use Rattle.log.specs.contracts.Field as S
-use Rattle.log.proofs.Field.TheLaws as S'
-use Rattle.log.specs.contracts.field_at as callee
-use Rattle.log.proofs.field_at.Symbol as callee-def
-use Rattle.log.proofs.field_at.Symbol.{name as #log·field-at}
-use Rattle.log.proofs.field_at.Met as callee-thm
+use Rattle.log_fields.specs.contracts.Field as S
+use Rattle.log_fields.proofs.Field.TheLaws as S'
+use Rattle.log_fields.specs.contracts.field_at as callee
+use Rattle.log_fields.proofs.field_at.Symbol as callee-def
+use Rattle.log_fields.proofs.field_at.Symbol.{name as #log·field-at}
+use Rattle.log_fields.proofs.field_at.Met as callee-thm
 use Rattle.reader.specs.contracts.Reader.field.Key.{name as #reader·field}
 use Rattle.reader.specs.contracts.Reader.field as field
 use Rattle.reader.proofs.Reader.field.Statement as stated
@@ -139,4 +139,4 @@ field-spec 𝓤 𝓛 𝓜 𝓡 =
     entered 𝓤 𝓛.H (triple_of 𝓛 field.signature (field.spec 𝓛 𝓜.mem 𝓡.run))
     (tables 𝓤 𝓛.H 𝓜 𝓡 code.env).C (tables 𝓤 𝓛.H 𝓜 𝓡 code.env).Λ #reader·field code.function (code.unfolded 𝓤 𝓛.H 𝓜 𝓡)
     (field-meets 𝓛 𝓜.mem 𝓡.run (tables_of 𝓤 𝓛.H 𝓜 (tables 𝓤 𝓛.H 𝓜 𝓡 code.env))
-    (cited 𝓤 𝓛.H (FieldAt 𝓛 𝓜.mem 𝓡.run) 𝓜 𝓡 code.env #log·field-at callee-def.routine code.calls-log::field-at (callee-thm.met 𝓤 𝓛 𝓜 𝓡)))
+    (cited 𝓤 𝓛.H (FieldAt 𝓛 𝓜.mem 𝓡.run) 𝓜 𝓡 code.env #log·field-at callee-def.routine code.calls-log_fields::field-at (callee-thm.met 𝓤 𝓛 𝓜 𝓡)))

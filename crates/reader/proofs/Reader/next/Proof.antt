@@ -1,4 +1,4 @@
--- `reader::Reader::next` meets its contract: a walk of its MIR, by hand. The struct is taken apart, and `log::next_at` is called on the slice and the number. All that the proof knows of `log::next_at` is that it meets its contract.
+-- `reader::Reader::next` meets its contract: a walk of its MIR, by hand. The struct is taken apart, and `log_fields::next_at` is called on the slice and the number. All that the proof knows of `log_fields::next_at` is that it meets its contract.
 -- The struct is Copy: what it owns is had twice, one copy is kept whole for the exit, and of the other what log owns goes to the callee, beside the lifetime's token, which comes back.
 -- Assumes nothing.
 use mathlib.Core.Path.{◌≡◌, refl, ap}
@@ -37,15 +37,15 @@ use denote.Triple.Table.{entered, cited}
 use denote.Triple.Walked.{says, Stays, stay_none, walk_of, Goes-none, Walks, ends_at, walked, walk_Meets}
 use denote.Exit.{yes}
 use denote.Triple.Clauses.{ensured, lasts}
-use Rattle.log.specs.Field.{next_at}
+use Rattle.log_fields.specs.Field.{next_at}
 use Rattle.reader.specs.declared.Reader.{Reader}
 use Rattle.reader.specs.contracts.Reader as T
 use Rattle.reader.proofs.Reader.TheLaws as T'
 use Rattle.reader.proofs.Apart.{B, D, L, Own, Entry, passed, apart, fields_of, twice}
-use Rattle.log.specs.contracts.next_at as callee
-use Rattle.log.proofs.next_at.Symbol as callee-def
-use Rattle.log.proofs.next_at.Symbol.{name as #log·next-at}
-use Rattle.log.proofs.next_at.Met as callee-thm
+use Rattle.log_fields.specs.contracts.next_at as callee
+use Rattle.log_fields.proofs.next_at.Symbol as callee-def
+use Rattle.log_fields.proofs.next_at.Symbol.{name as #log·next-at}
+use Rattle.log_fields.proofs.next_at.Met as callee-thm
 use Rattle.reader.specs.contracts.Reader.next.Key.{name as #reader·next}
 use Rattle.reader.specs.contracts.Reader.next as next
 use Rattle.reader.proofs.Reader.next.Statement as stated
@@ -150,4 +150,4 @@ next-spec 𝓤 𝓛 𝓜 𝓡 =
     entered 𝓤 𝓛.H (triple_of 𝓛 next.signature (next.spec 𝓛 𝓜.mem 𝓡.run))
     (tables 𝓤 𝓛.H 𝓜 𝓡 code.env).C (tables 𝓤 𝓛.H 𝓜 𝓡 code.env).Λ #reader·next code.function (code.unfolded 𝓤 𝓛.H 𝓜 𝓡)
     (next-meets 𝓛 𝓜.mem 𝓡.run (tables_of 𝓤 𝓛.H 𝓜 (tables 𝓤 𝓛.H 𝓜 𝓡 code.env))
-    (cited 𝓤 𝓛.H (NextAt 𝓛 𝓜.mem 𝓡.run) 𝓜 𝓡 code.env #log·next-at callee-def.routine code.calls-log::next-at (callee-thm.met 𝓤 𝓛 𝓜 𝓡)))
+    (cited 𝓤 𝓛.H (NextAt 𝓛 𝓜.mem 𝓡.run) 𝓜 𝓡 code.env #log·next-at callee-def.routine code.calls-log_fields::next-at (callee-thm.met 𝓤 𝓛 𝓜 𝓡)))

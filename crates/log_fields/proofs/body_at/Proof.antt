@@ -1,12 +1,12 @@
--- `log::body_at` meets its contract: the next place says whether there is a body, and where it ends.
+-- `log_fields::body_at` meets its contract: the next place says whether there is a body, and where it ends.
 use mathlib.Core.Path.{sym, ◌∙◌}
 use Prim.Native.Nat.{◌+◌}
 use native.Mathlib.Nat.{add-zero, add_comm}
 use native.Mathlib.Omega.{arith}
 use borrow.Author.Rules.{rules}
-use Rattle.log.specs.FieldLaws.{next_passes, body_stays, body_moves, start_stays, start_moves}
-use Rattle.log.proofs.body_at.Statement.{statement}
-use Rattle.log.proofs.body_at.Tie as tie
+use Rattle.log_fields.specs.FieldLaws.{next_passes, body_stays, body_moves, start_stays, start_moves}
+use Rattle.log_fields.proofs.body_at.Statement.{statement}
+use Rattle.log_fields.proofs.body_at.Tie as tie
 
 next-at-requires : tie.Need-next-at-requires
 next-at-requires c κs = search rules

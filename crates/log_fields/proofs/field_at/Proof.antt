@@ -1,10 +1,10 @@
--- `log::field_at` meets its contract: the next place says whether the field is cut short, and its body makes the rest.
+-- `log_fields::field_at` meets its contract: the next place says whether the field is cut short, and its body makes the rest.
 use mathlib.Core.Path.{sym, ◌∙◌}
 use native.Mathlib.Omega.{arith}
 use borrow.Author.Rules.{rules}
-use Rattle.log.specs.FieldLaws.{field_end, field_stays, field_moves}
-use Rattle.log.proofs.field_at.Statement.{statement}
-use Rattle.log.proofs.field_at.Tie as tie
+use Rattle.log_fields.specs.FieldLaws.{field_end, field_stays, field_moves}
+use Rattle.log_fields.proofs.field_at.Statement.{statement}
+use Rattle.log_fields.proofs.field_at.Tie as tie
 
 returns : tie.Need-returns
 returns c = let a = c.before.before.args in sym (field_end a.log.now a.at (omega arith))

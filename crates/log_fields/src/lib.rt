@@ -5,9 +5,9 @@
 mod bytes;
 
 ghost use Rattle.std.specs.Prelude.{◌≡◌};
-ghost use Rattle.log.specs.Outcome.{outcome_of};
-ghost use Rattle.log.specs.Field.{whole_field, next_at, field_at};
-ghost use Rattle.log.specs.Body.{IsBody};
+ghost use Rattle.log_fields.specs.Outcome.{outcome_of};
+ghost use Rattle.log_fields.specs.Field.{whole_field, next_at, field_at};
+ghost use Rattle.log_fields.specs.Body.{IsBody};
 
 use bytes::number_at;
 use zeros::all_zero;

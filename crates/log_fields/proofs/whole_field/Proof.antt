@@ -1,10 +1,10 @@
--- `log::whole_field` meets its contract: at each `return` the tag, and the test of the body, say which case of `whole_field` holds.
+-- `log_fields::whole_field` meets its contract: at each `return` the tag, and the test of the body, say which case of `whole_field` holds.
 use borrow.Author.Rules.{rules}
 use borrow.Author.Tests.{eq-eqb, ne_eqb, not-true, not-false}
 use mathlib.Core.Path.{sym, ◌∙◌}
-use Rattle.log.specs.Field.{whole_field}
-use Rattle.log.proofs.whole_field.Statement.{statement}
-use Rattle.log.proofs.whole_field.Tie as tie
+use Rattle.log_fields.specs.Field.{whole_field}
+use Rattle.log_fields.proofs.whole_field.Statement.{statement}
+use Rattle.log_fields.proofs.whole_field.Tie as tie
 
 leaf-field-requires : tie.Need-leaf-field-requires
 leaf-field-requires c κs = search rules

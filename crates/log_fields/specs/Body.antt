@@ -2,7 +2,7 @@
 use Rattle.std.specs.Prelude.{◌≡◌, List, ℕ, ◌+◌}
 use Rattle.std.specs.Borrow.{Bor}
 use Rattle.laws.specs.Test.{pick}
-use Rattle.log.specs.Field.{cut_short, body_at}
+use Rattle.log_fields.specs.Field.{cut_short, body_at}
 
 -- where the body of a field starts; the log's first place, for the empty body, where the field is cut short
 unfoldable pub body_start : List ℕ → ℕ → ℕ

@@ -6,9 +6,9 @@ use Rattle.std.proofs.Math.Nat.{add-sub_cancel_left}
 use native.Mathlib.Omega.{arith}
 use Rattle.std.proofs.Common.{eq-eqb, ne_eqb}
 use Rattle.laws.specs.Test.{Says, says_ltb, says_or, says_map, says_true, says_false}
-use Rattle.log.specs.Outcome.{end, refusal}
-use Rattle.log.specs.Field.{left, length_at, cut_short, next_at, body_at, whole_field, field_at}
-use Rattle.log.specs.Body.{body_start}
+use Rattle.log_fields.specs.Outcome.{end, refusal}
+use Rattle.log_fields.specs.Field.{left, length_at, cut_short, next_at, body_at, whole_field, field_at}
+use Rattle.log_fields.specs.Body.{body_start}
 
 module _ (log : List ℕ) (place : ℕ) where
   -- a field is cut short when it reaches past the end

@@ -1,8 +1,8 @@
 -- The field at a place of a log (document 01, "The log" and refusals 6 to 9): one byte of tag, two of length, high byte first, and a body.
 use Rattle.std.specs.Prelude.{List, [], ◌∷◌, Bool, true, not, ◌||◌, ◌&&◌, ℕ, ◌+◌, ◌-◌, length, get_or, take, drop, eqb, ltb}
 use Rattle.laws.specs.Test.{pick}
-use Rattle.log.specs.Bytes.{number_at, all_zero}
-use Rattle.log.specs.Outcome.{Outcome, end, refusal, field}
+use Rattle.log_fields.specs.Bytes.{number_at, all_zero}
+use Rattle.log_fields.specs.Outcome.{Outcome, end, refusal, field}
 
 -- ---- by tag
 

@@ -2,9 +2,9 @@
 use Rattle.std.specs.Prelude.{◌≡◌, refl, Bool, true, false, get_or, eqb}
 use Rattle.std.proofs.Common.{sym, ap, ◌∙◌}
 use Rattle.laws.specs.Test.{pick, bit}
-use Rattle.log.specs.declared.Field.{Field}
-use Rattle.log.specs.declared.Field.TheVariants.{End, BadTag, BadLength, Truncated, DirtyFiller, Leaf, Root, Question, Alike, Filler}
-use Rattle.log.specs.Outcome.{Outcome, end, refusal, field, outcome_of}
+use Rattle.log_fields.specs.declared.Field.{Field}
+use Rattle.log_fields.specs.declared.Field.TheVariants.{End, BadTag, BadLength, Truncated, DirtyFiller, Leaf, Root, Question, Alike, Filler}
+use Rattle.log_fields.specs.Outcome.{Outcome, end, refusal, field, outcome_of}
 
 -- a root's first value tells whether it names an opening
 pub named_told : (named : Bool) → eqb (bit named) 1 ≡ named

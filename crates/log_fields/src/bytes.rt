@@ -1,6 +1,6 @@
 // Numbers in a run of bytes.
 ghost use Rattle.std.specs.Prelude.{◌≡◌, ◌+◌, ◌*◌, ◌<◌, length};
-ghost use Rattle.log.specs.Bytes.{number_at};
+ghost use Rattle.log_fields.specs.Bytes.{number_at};
 
 // The 16-bit number of two bytes.
 fn number(high: u8, low: u8) -> u16

@@ -1,8 +1,8 @@
 -- What reading a field gives, in document 01's numbers, and which of them each case of `Field` stands for.
 use Rattle.std.specs.Prelude.{List, [], ◌∷◌, ℕ}
 use Rattle.laws.specs.Test.{bit}
-use Rattle.log.specs.declared.Field.{Field}
-use Rattle.log.specs.declared.Field.TheVariants.{End, BadTag, BadLength, Truncated, DirtyFiller, Leaf, Root, Question, Alike, Filler}
+use Rattle.log_fields.specs.declared.Field.{Field}
+use Rattle.log_fields.specs.declared.Field.TheVariants.{End, BadTag, BadLength, Truncated, DirtyFiller, Leaf, Root, Question, Alike, Filler}
 
 -- the log's end; a refusal's number and the next place; or a field's kind, its values and the next place
 pub data Outcome : Type 0 where

@@ -1,8 +1,8 @@
 -- `number`: the high byte comes first.
 use mathlib.Core.Path.{refl}
 use borrow.Author.Rules.{rules}
-use Rattle.log.proofs.bytes.number.Statement.{statement}
-use Rattle.log.proofs.bytes.number.Tie as tie
+use Rattle.log_fields.proofs.bytes.number.Statement.{statement}
+use Rattle.log_fields.proofs.bytes.number.Tie as tie
 
 mul-result : tie.Need-overflow-mul-result
 mul-result c = search rules

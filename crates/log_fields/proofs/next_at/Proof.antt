@@ -1,10 +1,10 @@
--- `log::next_at` meets its contract: each test that fails says that the field reaches past the end.
+-- `log_fields::next_at` meets its contract: each test that fails says that the field reaches past the end.
 use mathlib.Core.Path.{sym}
 use native.Mathlib.Omega.{arith}
 use borrow.Author.Rules.{rules}
-use Rattle.log.specs.FieldLaws.{next_cut, next_whole}
-use Rattle.log.proofs.next_at.Statement.{statement}
-use Rattle.log.proofs.next_at.Tie as tie
+use Rattle.log_fields.specs.FieldLaws.{next_cut, next_whole}
+use Rattle.log_fields.proofs.next_at.Statement.{statement}
+use Rattle.log_fields.proofs.next_at.Tie as tie
 
 returns : tie.Need-returns
 returns c = let a = c.before.before.args in sym (next_cut a.log.now a.at (omega arith))

@@ -1,4 +1,4 @@
--- `log::faced_leaf_field` meets its contract: the body's length says which case of `whole_field` holds.
+-- `log_fields::faced_leaf_field` meets its contract: the body's length says which case of `whole_field` holds.
 use mathlib.Core.Path.{◌≡◌, refl}
 use mathlib.Core.Logic.{◌≢◌}
 use mathlib.Core.List.{List, [], ◌∷◌}
@@ -7,11 +7,11 @@ use native.Mathlib.Omega.{arith}
 use lib.ListN.{length, get_or}
 use borrow.Author.Rules.{rules}
 use borrow.Author.Tests.{ne_eqb}
-use Rattle.log.specs.Bytes.{number_at}
-use Rattle.log.specs.Outcome.{refusal, field}
-use Rattle.log.specs.Field.{whole_field}
-use Rattle.log.proofs.faced_leaf_field.Statement.{statement}
-use Rattle.log.proofs.faced_leaf_field.Tie as tie
+use Rattle.log_fields.specs.Bytes.{number_at}
+use Rattle.log_fields.specs.Outcome.{refusal, field}
+use Rattle.log_fields.specs.Field.{whole_field}
+use Rattle.log_fields.proofs.faced_leaf_field.Statement.{statement}
+use Rattle.log_fields.proofs.faced_leaf_field.Tie as tie
 
 module _ (body : List ℕ) (next : ℕ) where
   odd-length : length body ≢ 5 → refusal 7 next ≡ whole_field 5 body next

@@ -1,4 +1,4 @@
--- `log::root_field` meets its contract: the body's length says which case of `whole_field` holds.
+-- `log_fields::root_field` meets its contract: the body's length says which case of `whole_field` holds.
 use mathlib.Core.Path.{◌≡◌}
 use mathlib.Core.Logic.{◌≢◌}
 use mathlib.Core.List.{List, [], ◌∷◌}
@@ -6,11 +6,11 @@ use Prim.Native.Nat.{ℕ}
 use lib.ListN.{length}
 use borrow.Author.Rules.{rules}
 use borrow.Author.Tests.{ne_eqb}
-use Rattle.log.specs.Bytes.{number_at}
-use Rattle.log.specs.Outcome.{refusal, field}
-use Rattle.log.specs.Field.{whole_field}
-use Rattle.log.proofs.root_field.Statement.{statement}
-use Rattle.log.proofs.root_field.Tie as tie
+use Rattle.log_fields.specs.Bytes.{number_at}
+use Rattle.log_fields.specs.Outcome.{refusal, field}
+use Rattle.log_fields.specs.Field.{whole_field}
+use Rattle.log_fields.proofs.root_field.Statement.{statement}
+use Rattle.log_fields.proofs.root_field.Tie as tie
 
 module _ (body : List ℕ) (next : ℕ) where
   unnamed : length body ≡ 0 → field 2 (0 ∷ 0 ∷ []) next ≡ whole_field 2 body next
