@@ -3,8 +3,10 @@
 #![tactic(auto)]
 
 ghost use Rattle.std.specs.Prelude.{◌≡◌, length};
+ghost use Rattle.io.specs.Counts.{IsPrefixLen};
 
-use libc::{STDIN_FILENO, STDOUT_FILENO};
+use std::io;
+use std::io::{Read, Write};
 use transcript::transcribe;
 
 // The log's buffer; the contract gives only the length, which lending it needs.
@@ -21,10 +23,25 @@ fn page_buffer() -> [u8; 524576]
     [0; 524576]
 }
 
-fn main() {
+// Reads until the buffer is full, the input ends or a read fails, and says how many bytes came.
+fn read_full(input: &mut impl Read, log: &mut [u8]) -> usize
+    ensures { IsPrefixLen result log.new }
+{
+    let mut filled = 0;
+    while filled < log.len() {
+        match input.read(&mut log[filled..]) {
+            Ok(0) => return filled,
+            Ok(n) => filled += n,
+            Err(_) => return filled,
+        }
+    }
+    filled
+}
+
+fn main(rt: HostRuntime) -> io::Result<()> {
     let mut log = log_buffer();
-    let read = io::read_full(STDIN_FILENO, &mut log);
+    let read = read_full(&mut rt.stdin(), &mut log);
     let mut out = page_buffer();
     let filled = transcribe(&log[..read], &mut out);
-    io::write_all(STDOUT_FILENO, &out[..filled]);
+    rt.stdout().write_all(&out[..filled])
 }

@@ -11,6 +11,7 @@ use crate::report::{write_checks, write_name, write_tree};
 use crate::shape::SHAPES;
 use layer::layout::{ENTRIES, FIELDS, NUMBERS};
 use set_up::{Made, set_up};
+use std::io;
 use table::state::State;
 
 mod call;
@@ -110,24 +111,25 @@ fn try_shape(shape: u16) -> Run {
     asked(&fields, &numbers, &levels, &ancestors, run)
 }
 
-fn report_shape(shape: u16) {
+fn report_shape(rt: &impl Print, shape: u16) -> io::Result<()> {
     let run = try_shape(shape);
     let state = run.state;
-    write_name(shape);
-    write_tree(state.count, run.total);
-    write_checks(run.checks);
+    write_name(rt, shape)?;
+    write_tree(rt, state.count, run.total)?;
+    write_checks(rt, run.checks)
 }
 
-fn report_shapes() {
+fn report_shapes(rt: &impl Print) -> io::Result<()> {
     let mut shape: u16 = 0;
     while shape < SHAPES {
-        report_shape(shape);
+        report_shape(rt, shape)?;
         shape += 1;
     }
+    Ok(())
 }
 
-fn main() {
-    report_shapes();
-    io::write_all(1, b"limits: parts that do not fit, the empty log");
-    write_checks(limits(checks::none()));
+fn main(rt: HostRuntime) -> io::Result<()> {
+    report_shapes(&rt)?;
+    print!(rt; "limits: parts that do not fit, the empty log")?;
+    write_checks(&rt, limits(checks::none()))
 }

@@ -1,43 +1,29 @@
 // The lines that the trial prints.
 use crate::checks::Checks;
-use io::{print_decimal, write_all};
+use std::io;
 
-pub fn write_name(shape: u16) {
+pub fn write_name(rt: &impl Print, shape: u16) -> io::Result<()> {
     match shape {
-        0 => write_all(1, b"uniform"),
-        1 => write_all(1, b"chain"),
-        2 => write_all(1, b"star"),
-        3 => write_all(1, b"recent"),
-        4 => write_all(1, b"binary"),
-        5 => write_all(1, b"caterpillar"),
-        6 => write_all(1, b"several trees"),
-        _ => write_all(1, b"linked trees"),
-    };
+        0 => print!(rt; "uniform"),
+        1 => print!(rt; "chain"),
+        2 => print!(rt; "star"),
+        3 => print!(rt; "recent"),
+        4 => print!(rt; "binary"),
+        5 => print!(rt; "caterpillar"),
+        6 => print!(rt; "several trees"),
+        _ => print!(rt; "linked trees"),
+    }
 }
 
-pub fn write_tree(nodes: u16, rows: u64) {
-    write_all(1, b": ");
-    print_decimal(1, nodes as u64);
-    write_all(1, b" nodes, ");
-    print_decimal(1, rows);
-    write_all(1, b" rows renumbered");
+pub fn write_tree(rt: &impl Print, nodes: u16, rows: u64) -> io::Result<()> {
+    print!(rt; ": {nodes} nodes, {rows} rows renumbered")
 }
 
 // Comparisons made, and whether all were equal; or the first that was not, its call's letter and numbers.
-pub fn write_checks(t: Checks) {
-    write_all(1, b", ");
-    print_decimal(1, t.compared);
-    write_all(1, b" comparisons, ");
+pub fn write_checks(rt: &impl Print, t: Checks) -> io::Result<()> {
+    print!(rt; ", {} comparisons, ", t.compared)?;
     if t.letter == 0 {
-        write_all(1, b"all equal\n");
-        return;
+        return println!(rt; "all equal");
     }
-    write_all(1, b"first difference ");
-    let letter = [t.letter];
-    write_all(1, &letter);
-    write_all(1, b" ");
-    print_decimal(1, t.x as u64);
-    write_all(1, b" ");
-    print_decimal(1, t.y as u64);
-    write_all(1, b"\n");
+    println!(rt; "first difference {} {} {}", t.letter as char, t.x, t.y)
 }
