@@ -20,6 +20,7 @@ chain_first (link d p) i = inl refl
 chain_next : {next : ℕ → ℕ} {c w : ℕ} {xs : List ℕ} → Chain next c xs → Member xs w → next w ≢ none → Member xs (next w)
 chain_next (link d p) (inl e) i = rw e (inr (chain_first p (rw e at i)))
 chain_next (link d p) (inr z) i = inr (chain_next p z i)
+chain_next (end _) z i = elim z [ ]
 
 chain_along : {next : ℕ → ℕ} {c w x : ℕ} {xs : List ℕ} → Chain next c xs → Member xs w → Anc next x w → Member xs x
 chain_along p z here = z

@@ -33,6 +33,7 @@ pushed_in : (f : Kin) (l : List ℕ) (x : ℕ) → In f x → Member (pushed f l
 pushed_in (node r kids rest) l x (inl e) = pushed_old rest (pushed kids (r ∷ l)) x (pushed_old kids (r ∷ l) x (inl e))
 pushed_in (node r kids rest) l x (inr (inl z)) = pushed_old rest (pushed kids (r ∷ l)) x (pushed_in kids (r ∷ l) x z)
 pushed_in (node r kids rest) l x (inr (inr z)) = pushed_in rest (pushed kids (r ∷ l)) x z
+pushed_in nil l x z = elim z [ ]
 
 pushed_or : (f : Kin) (l : List ℕ) (x : ℕ) → Member (pushed f l) x → Member l x ⊎ In f x
 pushed_or nil l x z = inl z
@@ -53,12 +54,14 @@ pushed_later : (f : Kin) (l : List ℕ) (x y : ℕ) → Member l x → In f y �
 pushed_later (node r kids rest) l x y m (inl e) = rw e (pushed_keeps rest (pushed_keeps kids (latest m)))
 pushed_later (node r kids rest) l x y m (inr (inl z)) = pushed_keeps rest (pushed_later kids (r ∷ l) x y (inr m) z)
 pushed_later (node r kids rest) l x y m (inr (inr z)) = pushed_later rest (pushed kids (r ∷ l)) x y (pushed_old kids (r ∷ l) x (inr m)) z
+pushed_later nil l x y m z = elim z [ ]
 
 -- a row comes before its children
 pushed_below : {k : Links} {v c : ℕ} {f : Kin} (l : List ℕ) (w : ℕ) → Reads k v c f → Member l v → In f w → Earlier (pushed f l) (k.parent w) w
 pushed_below l w (more {kids = kids} {rest} d e p q) m (inl z) = rw (z, e) (pushed_keeps rest (pushed_keeps kids (latest m)))
 pushed_below {c = c} l w (more {rest = rest} d e p q) m (inr (inl z)) = pushed_keeps rest (pushed_below (c ∷ l) w p (inl refl) z)
 pushed_below {v = v} {c} l w (more {kids = kids} d e p q) m (inr (inr z)) = pushed_below (pushed kids (c ∷ l)) w q (pushed_old kids (c ∷ l) v (inr m)) z
+pushed_below l w (stop _) m z = elim z [ ]
 
 -- siblings come in the order of the links
 next_in : {k : Links} {v c x : ℕ} {f : Kin} → Reads k v c f → c ≢ none → Anc k.next x c → In f x
@@ -73,6 +76,7 @@ pushed_next {c = c} {x = x} l (more {kids = kids} {rest} d e p q) (inl z) a o = 
 ]
 pushed_next {c = c} l (more {rest = rest} d e p q) (inr (inl z)) a o = pushed_keeps rest (pushed_next (c ∷ l) p z a o)
 pushed_next {c = c} l (more {kids = kids} d e p q) (inr (inr z)) a o = pushed_next (pushed kids (c ∷ l)) q z a o
+pushed_next l (stop _) z a o = elim z [ ]
 
 pushed_length : (f : Kin) (l : List ℕ) → length (pushed f l) ≡ length l + count f
 pushed_length nil l = omega arith

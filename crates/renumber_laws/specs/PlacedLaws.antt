@@ -1,6 +1,6 @@
 -- The head, and then each row after its parent: what holds of the rows that are placed.
 use Rattle.std.specs.Prelude.{◌≡◌, refl, ◌⊎◌, ◌≢◌, List, [], ◌∷◌, ℕ, ◌+◌, ◌*◌, ◌≤◌, ◌<◌}
-use Rattle.std.proofs.Common.{ap, sym, ◌∙◌, inl, inr, arith}
+use Rattle.std.proofs.Common.{ap, sym, ◌∙◌, inl, inr, subst, arith}
 use Rattle.std.proofs.Math.Decide.{ℕ_discrete}
 use Rattle.laws.specs.Test.{says_true, says_false, says_eqb}
 use Rattle.laws.specs.Sum.{sum_of}
@@ -33,6 +33,7 @@ earlier_or (x ∷ l) v w (inl a) (inl b) d = absurd (d (a ∙ sym b))
 earlier_or (x ∷ l) v w (inl a) (inr b) d = inr (rw a (latest b))
 earlier_or (x ∷ l) v w (inr a) (inl b) d = inl (rw b (latest a))
 earlier_or (x ∷ l) v w (inr a) (inr b) d = elim (earlier_or l v w a b d) [ inl z ↦ inl (still z) | inr z ↦ inr (still z) ]
+earlier_or [] v w z _ d = elim z [ ]
 
 share_none : (c : Numbers) (u w : ℕ) → c.upper w ≢ u → share c u w ≡ 0
 share_none c u w d = rw (says_false (says_eqb (c.upper w) u) d) (omega arith)
@@ -104,6 +105,7 @@ module _ {parent path rank : ℕ → ℕ} {n h : ℕ} {b : Numbers} (st : Start 
 
       none_earlier : {v w : ℕ} → ¬ Earlier (h ∷ []) v w
       none_earlier (latest z) = z
+      none_earlier (still z) = elim z [ ]
 
   -- One row more
 
@@ -177,6 +179,9 @@ module _ {parent path rank : ℕ → ℕ} {n h : ℕ} {b : Numbers} (st : Start 
     childless w (inl e) i = u_other (sym v.upper ∙ ap d.upper (sym e) ∙ i)
     childless w (inr z) i = upper_other w z (sym (same w z).upper ∙ i)
 
+    abbrev next_free_as : List ℕ → ℕ → Type 0
+    next_free_as m y = d.next_free y ≡ p_at d y + width * sum_of (share d y) m
+
     next_free_x : d.next_free x ≡ p_at d x + width * sum_of (share d x) (x ∷ l)
     next_free_x = omega (
       arith,
@@ -188,7 +193,7 @@ module _ {parent path rank : ℕ → ℕ} {n h : ℕ} {b : Numbers} (st : Start 
 
     next_free_y : (y : ℕ) → Member l y → d.next_free y ≡ p_at d y + width * sum_of (share d y) (x ∷ l)
     next_free_y y z = elim (ℕ_discrete y u) [
-      | yes e ↦ rw e (omega (arith, v.above u_other, p_same u u_in, g.next_frees u u_in, share_x, sum_same u))
+      | yes e ↦ subst (next_free_as (x ∷ l)) (sym e) (omega (arith, v.above u_other, p_same u u_in, g.next_frees u u_in, share_x, sum_same u))
       | no e ↦ omega (
         arith,
         v.next_frees y (other y z) e,
@@ -236,7 +241,7 @@ module _ {parent path rank : ℕ → ℕ} {n h : ℕ} {b : Numbers} (st : Start 
         | inr o ↦ rw (same y o).upper (omega (arith, end_same y o, grows (c.upper y) (g.uppers y o i), g.high y o i))
       ];
       order = λ y w z. in_order z;
-      next_frees = λ y z. elim z [ inl e ↦ rw e next_free_x | inr o ↦ next_free_y y o ];
+      next_frees = λ y z. elim z [ inl e ↦ subst (next_free_as (x ∷ l)) (sym e) next_free_x | inr o ↦ next_free_y y o ];
       filled = λ y z. elim z [
         | inl e ↦ rw e (filled_placed v u_other)
         | inr o ↦ filled_kept (same y o) (v.others (c.upper y) (upper_other y o)) (g.filled y o)

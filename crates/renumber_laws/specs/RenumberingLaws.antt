@@ -1,5 +1,5 @@
 -- The two walks of a renumbering give the renumbered layer.
-use Rattle.std.specs.Prelude.{◌≡◌, refl, ◌≢◌, ℕ, ◌-◌, ◌≤◌, ◌<◌}
+use Rattle.std.specs.Prelude.{◌≡◌, refl, ◌≢◌, ℕ, ◌≤◌, ◌<◌}
 use Rattle.std.proofs.Common.{sym, ◌∙◌, inl, inr, arith}
 use Rattle.std.proofs.Math.Decide.{ℕ_discrete}
 use Rattle.laws.specs.Test.{says_true, says_false, says_eqb}
@@ -12,10 +12,9 @@ use Rattle.tree_laws.specs.ChildLinksLaws.{SomeBelow, below_exists}
 use Rattle.tree_laws.specs.Compressed.{PathLinks, Compressed}
 use Rattle.tree_laws.specs.CompressedLaws.{apex_or, compressed_forest, upper_over, size_apex_lem, size_alone}
 use Rattle.tree_laws.specs.HeavyLast.{heavy_last}
-use Rattle.tree_laws.specs.Siblings.{count}
 use Rattle.tree_laws.specs.Size.{size as size_in, child_sum}
 use Rattle.tree_laws.specs.SizeLaws.{size_pos}
-use Rattle.layer.specs.Layer.{Layer, parent, depth, upper, path}
+use Rattle.layer.specs.Layer.{Layer, parent, depth, upper}
 use Rattle.join_laws.specs.Lone.{Kept}
 use Rattle.join_laws.specs.Renumbered.{Below, Rebuilt, Renumbered}
 use Rattle.join_laws.specs.RebuiltLaws.{rebuilt_compressed}

@@ -5,7 +5,7 @@ use Rattle.std.proofs.Math.Logic.{inl, inr}
 use Rattle.tree_laws.specs.Ancestor.{none, Anc, here, Forest}
 use Rattle.tree_laws.specs.AncestorLaws.{row_some, no_loop}
 use Rattle.tree_laws.specs.Size.{size}
-use Rattle.tree_laws.specs.Siblings.{Kin, nil, node, count, In, Sibling, Distinct, apart, Links, Reads, more, Whole, all, Below}
+use Rattle.tree_laws.specs.Siblings.{Kin, nil, node, count, In, Sibling, Distinct, apart, Links, Reads, more, Whole, nothing, all, Below}
 use Rattle.tree_laws.specs.SiblingsLaws.{sibling_parent, in_inside, in_over, reads_distinct, in_anc, anc_in_kin, size_count}
 use Rattle.tree_laws.specs.Walk.{sweep}
 use Rattle.renumber_laws.specs.HeavyChild.{HeavyChild}
@@ -47,6 +47,7 @@ module _ (k : Links) {rank : ℕ → ℕ} {n : ℕ} (t : Forest k.parent rank n)
   sibling_in : (f : Kin) (x : ℕ) → Sibling f x → In f x
   sibling_in (node c kids rest) x (inl e) = inl e
   sibling_in (node c kids rest) x (inr z) = inr (inr (sibling_in rest x z))
+  sibling_in nil x z = elim z [ ]
 
   closed_paths : (x : ℕ) → (x ≡ r) ⊎ In kids x → HeavyChild k.parent rank n x ((closed r b).path x)
   unfolding closed
@@ -158,6 +159,7 @@ module _ (k : Links) {rank : ℕ → ℕ} {n : ℕ} (t : Forest k.parent rank n)
       row_in : {f : Kin} {x : ℕ} → Whole k.parent n f → Sibling f x → x < n
       row_in (all i full w u) (inl e) = rw e i
       row_in (all i full w u) (inr z) = row_in u z
+      row_in nothing z = elim z [ ]
 
   pub sizes_swept : (s : Sizing) → Sized k.parent rank n h s (size_pass k.parent h f s)
   unfolding size_pass
