@@ -10,7 +10,7 @@ use layer::layout::{NONE, UPPER};
 use row_check::is_row;
 
 // A row on the way up from a node and the row below it on that way, the same row at the node itself; or lost, where a row that it met is not sound.
-#[derive(Drop)]
+#[derive(Clone, Copy)]
 pub struct Side {
     pub row: u16,
     pub below: u16,

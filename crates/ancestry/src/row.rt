@@ -74,9 +74,8 @@ pub fn covers(fields: &[u16], numbers: &[u64], v: u16, n: u64) -> bool
     requires { Spanned fields.now numbers.now v }
     ensures { result ≡ covers (row_of fields.now numbers.now v) n }
 {
-    let span = span_of(fields, numbers, v);
-    if n < span.p() {
+    if n < p_at(fields, numbers, v) {
         return false;
     }
-    n < span.q()
+    n < span_of(fields, numbers, v).q()
 }

@@ -19,7 +19,7 @@ use row_check::is_row;
 use span::rank;
 
 // A nearest common ancestor and the branches towards both nodes; sound where every row met is, and no row sought is missing.
-#[derive(Drop)]
+#[derive(Clone, Copy)]
 pub struct Fork {
     pub nca: u16,
     pub to_x: u16,
