@@ -1,7 +1,7 @@
 -- Every number of a numbered layer is small (01, "Every number stays at or below 5 × 2^60").
 use Rattle.std.specs.Prelude.{ℕ, ◌≤◌, ◌<◌}
 use Rattle.std.proofs.Common.{arith}
-use Rattle.laws.specs.Fourth.{fourth, fourth_le}
+use Rattle.laws.specs.Fourth.{fourth_le}
 use Rattle.tree_laws.specs.AncestorLaws.{anc_in, root_of}
 use Rattle.tree_laws.specs.SizeDepth.{size_le}
 use Rattle.span.specs.Constants.{limit}

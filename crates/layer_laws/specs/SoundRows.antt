@@ -3,7 +3,7 @@ use Rattle.std.specs.Prelude.{refl, List, [], ◌∷◌, ◌≢◌, ℕ, ◌<◌
 use Rattle.std.proofs.Common.{inl, inr}
 use Rattle.std.proofs.Math.Decide.{ℕ_discrete}
 use Rattle.tree_laws.specs.Ancestor.{none}
-use Rattle.layer.specs.Layer.{Layer, parent, upper, path}
+use Rattle.layer.specs.Layer.{Layer, parent}
 use Rattle.tree_laws.specs.ChildLinks.{Chain, end, link, Member}
 use Rattle.tree_laws.specs.Chains.{last_from, last_of}
 use Rattle.layer.specs.StoredTree.{Child}
