@@ -1,5 +1,5 @@
 // The reader (document 01, "The reader keeps the log and how far it has read"): a struct that holds the log and a place in it.
-// Its functions are thin: each takes the struct apart and calls one of `log` on the slice and the number. Their proofs are walks by hand.
+// Its functions are thin: each takes the struct apart and calls one of `log_fields` on the slice and the number.
 
 #![tactic(auto)]
 

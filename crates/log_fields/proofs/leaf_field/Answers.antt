@@ -4,13 +4,11 @@ use mathlib.Core.Logic.{◌≢◌}
 use mathlib.Core.List.{List, [], ◌∷◌}
 use Prim.Native.Nat.{ℕ}
 use lib.ListN.{length}
-use borrow.Author.Rules.{rules}
 use borrow.Author.Tests.{ne_eqb}
 use Rattle.log_fields.specs.Bytes.{number_at}
 use Rattle.log_fields.specs.Outcome.{refusal, field}
 use Rattle.log_fields.specs.Field.{whole_field}
-use Rattle.log_fields.proofs.leaf_field.Statement.{statement}
-use Rattle.log_fields.proofs.leaf_field.Tie as tie
+use Rattle.log_fields.proofs.leaf_field.Goals as goal
 
 module _ (body : List ℕ) (next : ℕ) where
   odd-length : length body ≢ 4 → refusal 7 next ≡ whole_field 1 body next
@@ -22,19 +20,9 @@ module _ (body : List ℕ) (next : ℕ) where
   unfolding whole_field
   front e p l = rw (e, p, l)
 
-returns : tie.Need-returns
-returns c = let a = c.before.before.args in odd-length a.body.now a.next c.if1.true
+pub returns-then-body-ne4 : goal.returns-then-body-ne4
+returns-then-body-ne4 c = let a = c.args in odd-length a.body.now a.next c.if-body-ne4.true
 
-number-at-requires : tie.Need-number-at-requires
-number-at-requires c κs = search rules
-
-number-at-requires-2 : tie.Need-number-at-requires-2
-number-at-requires-2 c κs = search rules
-
-returns-2 : tie.Need-returns-2
-returns-2 c =
-    let a = c.before.before.before.before.args in
-    front a.body.now a.next c.before.before.if1.false c.before.number_at.ensures c.number-at2.ensures
-
-pub leaf-field-spec : {M : Type 1} → statement M
-leaf-field-spec = tie.close (tie.spec returns number-at-requires number-at-requires-2 returns-2)
+pub returns : goal.returns
+returns c = let a = c.args in
+    front a.body.now a.next c.if-body-ne4.false c.number_at.ensures c.number_at-2.ensures

@@ -4,13 +4,11 @@ use mathlib.Core.Logic.{◌≢◌}
 use mathlib.Core.List.{List, [], ◌∷◌}
 use Prim.Native.Nat.{ℕ}
 use lib.ListN.{length}
-use borrow.Author.Rules.{rules}
 use borrow.Author.Tests.{ne_eqb}
 use Rattle.log_fields.specs.Bytes.{number_at}
 use Rattle.log_fields.specs.Outcome.{refusal, field}
 use Rattle.log_fields.specs.Field.{whole_field}
-use Rattle.log_fields.proofs.root_field.Statement.{statement}
-use Rattle.log_fields.proofs.root_field.Tie as tie
+use Rattle.log_fields.proofs.root_field.Goals as goal
 
 module _ (body : List ℕ) (next : ℕ) where
   unnamed : length body ≡ 0 → field 2 (0 ∷ 0 ∷ []) next ≡ whole_field 2 body next
@@ -25,17 +23,11 @@ module _ (body : List ℕ) (next : ℕ) where
   unfolding whole_field
   named e o = rw (e, o)
 
-returns : tie.Need-returns
-returns c = let a = c.before.before.args in unnamed a.body.now a.next c.if1.true
+pub returns-then-body-eq0 : goal.returns-then-body-eq0
+returns-then-body-eq0 c = let a = c.args in unnamed a.body.now a.next c.if-body-eq0.true
 
-returns-2 : tie.Need-returns-2
-returns-2 c = let a = c.before.before.before.args in odd-length a.body.now a.next c.before.if1.false c.if2.true
+pub returns-then-body-ne2 : goal.returns-then-body-ne2
+returns-then-body-ne2 c = let a = c.args in odd-length a.body.now a.next c.if-body-eq0.false c.if-body-ne2.true
 
-number-at-requires : tie.Need-number-at-requires
-number-at-requires c κs = search rules
-
-returns-3 : tie.Need-returns-3
-returns-3 c = let a = c.before.before.before.before.args in named a.body.now a.next c.before.if2.false c.number_at.ensures
-
-pub root-field-spec : {M : Type 1} → statement M
-root-field-spec = tie.close (tie.spec returns returns-2 number-at-requires returns-3)
+pub returns : goal.returns
+returns c = let a = c.args in named a.body.now a.next c.if-body-ne2.false c.number_at.ensures
