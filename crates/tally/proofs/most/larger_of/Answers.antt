@@ -1,0 +1,9 @@
+-- `larger_of` by its test.
+use borrow.Author.Tests.{lt-ltb, le-ltb}
+use Rattle.tally.proofs.most.larger_of.Goals as goal
+
+pub returns-then-a-b : goal.returns-then-a-b
+returns-then-a-b c = let a = c.args in rw (lt-ltb a.a a.b c.if-a-b.true)
+
+pub returns-else-a-b : goal.returns-else-a-b
+returns-else-a-b c = let a = c.args in rw (le-ltb a.a a.b c.if-a-b.false)
