@@ -1,4 +1,3 @@
 // Laws only: inspection says yes exactly when all six rules hold and the tally is true. No code.
 
 #![tactic(auto)]
-
