@@ -8,7 +8,7 @@ use layer::row::field;
 use layer::write::put_field;
 
 // The new row, its parent, and the last child that the parent has so far.
-#[derive(Drop)]
+#[derive(Clone, Copy)]
 pub struct Leaf {
     pub row: u16,
     pub parent: u16,

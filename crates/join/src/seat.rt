@@ -15,7 +15,7 @@ use row_check::is_row;
 use span::Span;
 
 // Where a row will join: the leaf, its upper row and depth, and the head.
-#[derive(Drop)]
+#[derive(Clone, Copy)]
 pub struct Seat {
     pub leaf: Leaf,
     pub upper: u16,

@@ -1,0 +1,16 @@
+-- `next_after`, by cases.
+use Rattle.join.specs.Attach.{next_after}
+use borrow.Author.Tests.{eq-eqb, ne_eqb}
+use Rattle.join.proofs.attach.next_after.Goals as goal
+
+pub returns-then-v-leaf : goal.returns-then-v-leaf
+unfolding next_after
+returns-then-v-leaf c = let a = c.args in rw (eq-eqb a.v a.leaf.row c.if-v-leaf.true)
+
+pub returns-then-v-leaf-2 : goal.returns-then-v-leaf-2
+unfolding next_after
+returns-then-v-leaf-2 c = let a = c.args in rw (ne_eqb a.v a.leaf.row c.if-v-leaf.false, eq-eqb a.v a.leaf.prev c.if-v-leaf-2.true)
+
+pub returns : goal.returns
+unfolding next_after
+returns c = let a = c.args in rw (c.field.ensures, ne_eqb a.v a.leaf.row c.if-v-leaf.false, ne_eqb a.v a.leaf.prev c.if-v-leaf-2.false)
