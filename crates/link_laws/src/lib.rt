@@ -1,4 +1,3 @@
 // Laws only: a tree linked under a row of another tree, as a relation between tables.
 
 #![tactic(auto)]
-
