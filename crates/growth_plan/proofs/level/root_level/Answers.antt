@@ -17,4 +17,4 @@ pub overflow_sub-result : goal.overflow_sub-result
 overflow_sub-result c = let e = to_z-of_z w32 c.args.root c.ranges.root in rw e (made_fits (root_within e c.if-root-lt-LOWEST_ROOT.false c.if-root-gt-HIGHEST_LEVEL.false))
 
 pub returns : goal.returns
-returns c = let e = to_z-of_z w32 c.args.root c.ranges.root in ap At (to_z-of_z w32 _ (sub-t3 c) ∙ ap (λ (z : ℤ). z -ℤ pos 1) e) ∙ made_at (root_within e c.if-root-lt-LOWEST_ROOT.false c.if-root-gt-HIGHEST_LEVEL.false)
+returns c = let e = to_z-of_z w32 c.args.root c.ranges.root in ap At (to_z-of_z w32 _ (overflow_sub-result c) ∙ ap (λ (z : ℤ). z -ℤ pos 1) e) ∙ made_at (root_within e c.if-root-lt-LOWEST_ROOT.false c.if-root-gt-HIGHEST_LEVEL.false)
