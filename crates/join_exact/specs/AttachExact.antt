@@ -80,7 +80,7 @@ module _ {up rank : ℕ → ℕ} {c N : ℕ} (fuel : ℕ) (f : List ℕ) (n v w 
 
   row_rest : (y k : ℕ) → depth_place < k → k < field_stride → field_at with_row y k ≡ field_at f y k
   row_rest y k a b = elim (ℕ_discrete y n) [
-    | yes e ↦ rw e (row.own_val k b ∙ own_rest k a)
+    | yes e ↦ rw e (row.own k b ∙ own_rest k a)
     | no d ↦ row.others y k b d
   ]
     where
@@ -155,23 +155,23 @@ module _ {up rank : ℕ → ℕ} {c N : ℕ} (fuel : ℕ) (f : List ℕ) (n v w 
 
   -- the new row, and the links that changed
   new : (k : ℕ) → k < field_stride → k ≢ size_place → k ≢ first_place → k ≢ next_place → k ≢ last_place → field_at (raised fuel (linked with_row leaf) u) n k ≡ own k
-  new k l d₁ d₂ d₃ d₄ = grown.rest n k l d₁ ∙ linked_rest n k l d₂ d₃ d₄ ∙ row.own_val k l
+  new k l d₁ d₂ d₃ d₄ = grown.rest n k l d₁ ∙ linked_rest n k l d₂ d₃ d₄ ∙ row.own k l
 
   sized : field_at (raised fuel (linked with_row leaf) u) n size_place ≡ own size_place
   sized = grown.off n (λ d a. (chain_in a).other refl)
-      ∙ linked_rest n size_place (omega arith) (λ e. omega arith) (λ e. omega arith) (λ e. omega arith) ∙ row.own_val size_place (omega arith)
+      ∙ linked_rest n size_place (omega arith) (λ e. omega arith) (λ e. omega arith) (λ e. omega arith) ∙ row.own size_place (omega arith)
 
   first_new_lem : field_at (raised fuel (linked with_row leaf) u) n first_place ≡ own first_place
   first_new_lem = grown.rest n first_place (omega arith) (λ e. omega arith) ∙ linked_first n room
-      ∙ put_other (λ z. field_at with_row z first_place) v (first_of with_row leaf) n (not_new (inr v_in)) ∙ row.own_val first_place (omega arith)
+      ∙ put_other (λ z. field_at with_row z first_place) v (first_of with_row leaf) n (not_new (inr v_in)) ∙ row.own first_place (omega arith)
 
   last_new_lem : field_at (raised fuel (linked with_row leaf) u) n last_place ≡ own last_place
   last_new_lem = grown.rest n last_place (omega arith) (λ e. omega arith) ∙ linked_last n room
-      ∙ put_other (λ z. field_at with_row z last_place) v n n (not_new (inr v_in)) ∙ row.own_val last_place (omega arith)
+      ∙ put_other (λ z. field_at with_row z last_place) v n n (not_new (inr v_in)) ∙ row.own last_place (omega arith)
 
   next_new_lem : field_at (raised fuel (linked with_row leaf) u) n next_place ≡ own next_place
   next_new_lem = grown.rest n next_place (omega arith) (λ e. omega arith) ∙ linked_next n room
-      ∙ put_other (λ z. field_at with_row z next_place) w n n (not_new w_in) ∙ row.own_val next_place (omega arith)
+      ∙ put_other (λ z. field_at with_row z next_place) w n n (not_new w_in) ∙ row.own next_place (omega arith)
 
   last_old : (y : ℕ) → y < c → y ≢ n → field_at (raised fuel (linked with_row leaf) u) y last_place ≡ put (λ z. field_at f z last_place) v n y
   last_old y i l = grown.rest y last_place (omega arith) (λ e. omega arith) ∙ linked_last y i

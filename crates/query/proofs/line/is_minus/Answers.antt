@@ -6,23 +6,13 @@ use mir.ValLaws.{to_z_pos}
 use Rattle.query.specs.Line.{is_minus}
 use Rattle.table.specs.LevelLaws.{word_eq}
 use Rattle.query.specs.LevelLaws.{minus_fits}
-use borrow.Author.Rules.{rules}
-use Rattle.query.proofs.line.is_minus.Statement.{statement}
-use Rattle.query.proofs.line.is_minus.Tie as tie
+use Rattle.query.proofs.line.is_minus.Goals as goal
 
-cast-result : tie.Need-overflow-cast-result
-cast-result c = search rules
-
-sub-result : tie.Need-overflow-sub-result
-sub-result c =
-    let d = c.args.depth in
+pub overflow_sub-result : goal.overflow_sub-result
+overflow_sub-result c = let d = c.args.depth in
     rw (to_z_pos w32 d (omega arith), +ℤ_idl (neg_ℤ (pos d))) (minus_fits d (omega arith))
 
-returns : tie.Need-returns
+pub returns : goal.returns
 unfolding is_minus
-returns c =
-    let d = c.args.depth in
+returns c = let d = c.args.depth in
     rw (to_z_pos w32 d (omega arith), +ℤ_idl (neg_ℤ (pos d))) (word_eq c.args.level (neg_ℤ (pos d)) c.ranges.level (minus_fits d (omega arith)))
-
-pub is-minus-spec : {M : Type 1} → statement M
-is-minus-spec = tie.close (tie.spec cast-result sub-result returns)
