@@ -16,15 +16,15 @@ use Rattle.desk_tree_growth.specs.TreeGrowthCalls.{outcome, tree_after, GrownHel
 
 module _ (b after : List ℕ) (u t : Parts) (v w : List ℕ) (s : State) (g : GrowthOutcome) (i : u ≡ parts_in b) (l : v ≡ tally_in b) (j : s ≡ state_in b)
     (h : GrownHeld after t w g) where
-  pub leaf_held : (parent label face : ℕ) → growth.result t w g ≡ add_leaf u v least_scratch s parent label face → GrowthHeld after (add_leaf (parts_in b) (tally_in b) least_scratch (state_in b) parent label face)
+  pub leaf_held : (parent label face : ℕ) → growth.growth_result t w g ≡ add_leaf u v least_scratch s parent label face → GrowthHeld after (add_leaf (parts_in b) (tally_in b) least_scratch (state_in b) parent label face)
   leaf_held parent label face q =
-      let z : growth.result t w g ≡ add_leaf (parts_in b) (tally_in b) least_scratch (state_in b) parent label face = q ∙ rw (i, l, j) in
+      let z : growth.growth_result t w g ≡ add_leaf (parts_in b) (tally_in b) least_scratch (state_in b) parent label face = q ∙ rw (i, l, j) in
       subst (λ (o : Growth). GrowthHeld after o) z h
 
-  pub root_held : (named : Bool) (opening : ℕ) → growth.result t w g ≡ add_root u v least_scratch s named opening
+  pub root_held : (named : Bool) (opening : ℕ) → growth.growth_result t w g ≡ add_root u v least_scratch s named opening
       → GrowthHeld after (add_root (parts_in b) (tally_in b) least_scratch (state_in b) named opening)
   root_held named opening q =
-      let z : growth.result t w g ≡ add_root (parts_in b) (tally_in b) least_scratch (state_in b) named opening = q ∙ rw (i, l, j) in
+      let z : growth.growth_result t w g ≡ add_root (parts_in b) (tally_in b) least_scratch (state_in b) named opening = q ∙ rw (i, l, j) in
       subst (λ (o : Growth). GrowthHeld after o) z h
 
 module _ (b out : List ℕ) {r : ℕ} where
@@ -52,16 +52,16 @@ module _ (b out : List ℕ) {r : ℕ} where
 
   module _ (after out_after : List ℕ) (u t : Parts) (v w : List ℕ) (s : State) (g : GrowthOutcome) (e : length b ≡ tree_bytes) (f : length out ≡ 6) (i : u ≡ parts_in b) (l : v ≡ tally_in b)
       (j : s ≡ state_in b) (k : after ≡ tree_after b t w g) (h : reply r out_after ≡ grown_bytes out g) where
-    kept : outcome after (reply r out_after) ≡ on_lengths b out (growth.result t w g)
+    kept : outcome after (reply r out_after) ≡ on_lengths b out (growth.growth_result t w g)
     kept = rw (k, h) (both_fit tree_bytes b out 6 (outcome (tree_after b t w g) (grown_bytes out g)) (outcome b (misfit out)) e f)
 
-    pub leaf_kept : (parent label face : ℕ) → growth.result t w g ≡ add_leaf u v least_scratch s parent label face → outcome after (reply r out_after) ≡ leaf_tree b out parent label face
+    pub leaf_kept : (parent label face : ℕ) → growth.growth_result t w g ≡ add_leaf u v least_scratch s parent label face → outcome after (reply r out_after) ≡ leaf_tree b out parent label face
     unfolding leaf_tree
-    leaf_kept parent label face q = let z : growth.result t w g ≡ add_leaf (parts_in b) (tally_in b) least_scratch (state_in b) parent label face = q ∙ rw (i, l, j) in kept ∙ ap (on_lengths b out) z
+    leaf_kept parent label face q = let z : growth.growth_result t w g ≡ add_leaf (parts_in b) (tally_in b) least_scratch (state_in b) parent label face = q ∙ rw (i, l, j) in kept ∙ ap (on_lengths b out) z
 
-    pub root_kept : (named : Bool) (opening : ℕ) → growth.result t w g ≡ add_root u v least_scratch s named opening
+    pub root_kept : (named : Bool) (opening : ℕ) → growth.growth_result t w g ≡ add_root u v least_scratch s named opening
         → outcome after (reply r out_after) ≡ root_tree b out named opening
     unfolding root_tree
     root_kept named opening q =
-        let z : growth.result t w g ≡ add_root (parts_in b) (tally_in b) least_scratch (state_in b) named opening = q ∙ rw (i, l, j) in
+        let z : growth.growth_result t w g ≡ add_root (parts_in b) (tally_in b) least_scratch (state_in b) named opening = q ∙ rw (i, l, j) in
         kept ∙ ap (on_lengths b out) z

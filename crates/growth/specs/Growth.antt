@@ -24,8 +24,8 @@ pub record Result : Type 0 where
   pub parts : Parts
   pub tally : List ℕ
 
-abbrev pub result : Parts → List ℕ → Outcome → Result
-result t w o = record { outcome = o; parts = t; tally = w }
+abbrev pub growth_result : Parts → List ℕ → Outcome → Result
+growth_result t w o = record { outcome = o; parts = t; tally = w }
 
 -- the outcome of a growth that was served: its row is the old count
 abbrev pub node_at : ℕ → ℕ → ℕ → Outcome
@@ -34,27 +34,27 @@ node_at row rows head = node (one_more row) row rows head
 -- a growth that was served: the head is the one of its seat, and there is a node more of its label. That is the new row's, or the opening that an old root
 -- of label 0 takes: then the new row is a node more of label 0, and the old root one less (02: "where an old source takes it, entry 0 stays")
 unfoldable pub served : List ℕ → Plan → Stored → Result
-served w g s = result s.parts (counted w g.marks.label) (node_at g.seat.leaf.row s.given g.seat.head.row)
+served w g s = growth_result s.parts (counted w g.marks.label) (node_at g.seat.leaf.row s.given g.seat.head.row)
 
 -- a first node that was served: one row is numbered, and it heads itself; its label is 0
 unfoldable pub started : Parts → List ℕ → ℕ → Result
 started t w n =
-    result (parts_of (started_fields t.fields n) (lone_numbers t.numbers n) (with_level t.levels n (pos 0)) (lone_entries t.ancestors n))
+    growth_result (parts_of (started_fields t.fields n) (lone_numbers t.numbers n) (with_level t.levels n (pos 0)) (lone_entries t.ancestors n))
     (counted w 0) (node_at n 1 n)
 
 -- refused where the entry of the label would pass the capacity c
 abbrev pub with_room : Parts → List ℕ → ℕ → ℕ → Result → Result
-with_room t w c label r = pick (has_room w c label) r (result t w (refused Corrupt))
+with_room t w c label r = pick (has_room w c label) r (growth_result t w (refused Corrupt))
 
 -- by its plan, at capacity c: a refusal changes nothing
 unfoldable pub grown_at : Parts → List ℕ → ℕ → Planned → Result
 grown_at t w c (Grow g) = with_room t w c g.marks.label (served w g (plan_stored t g.seat.leaf.row g))
 grown_at t w c (Start n) = with_room t w c 0 (started t w n)
-grown_at t w c (Refuse r) = result t w (refused r)
+grown_at t w c (Refuse r) = growth_result t w (refused r)
 
 -- refused, since what was lent does not fit
 abbrev pub misfit : Parts → List ℕ → Result
-misfit t w = result t w (refused Misfit)
+misfit t w = growth_result t w (refused Misfit)
 
 -- with a scratch of this length, in parts and a tally that fit; of the scratch nothing but its length counts
 unfoldable pub grown_by : Parts → List ℕ → ℕ → Planned → Result

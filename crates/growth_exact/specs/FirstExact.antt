@@ -31,7 +31,7 @@ use Rattle.join.specs.Lone.{lone_numbers, lone_entries}
 use Rattle.growth_plan.specs.Plan.{root_plan}
 use Rattle.growth_plan.specs.PlanLaws.{first_row, root_first}
 use Rattle.growth.specs.Outcome.{node}
-use Rattle.growth.specs.Growth.{Result, result, node_at, started, grown_at, grown_by, add_first, add_root}
+use Rattle.growth.specs.Growth.{Result, growth_result, node_at, started, grown_at, grown_by, add_first, add_root}
 use Rattle.growth_store.specs.Start.{started_fields}
 use Rattle.renumber_laws.specs.Column.{put, put_other}
 use Rattle.renumber_exact.specs.Columns.{RowView, row_set}
@@ -109,7 +109,7 @@ module _ {c : ℕ} (p : Parts) (s : State) (fit : Fits c p) (r : Rules c (table_
       }
 
   module _ (w : List ℕ) (k : TallyOf t w) (scratch : ℕ) (long : least_scratch ≤ scratch) where
-    start_is : grown_by p w scratch (Start n) ≡ result left (counted w 0) (node_at n 1 n)
+    start_is : grown_by p w scratch (Start n) ≡ growth_result left (counted w 0) (node_at n 1 n)
     unfolding grown_by grown_at started
     start_is = rw (le-leb least_scratch scratch long, with_told p w fit k.long, tallied_room k {k = 0} room (omega arith))
 

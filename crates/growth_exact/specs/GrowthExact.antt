@@ -46,7 +46,7 @@ use Rattle.growth_store.specs.Store.{Stored}
 use Rattle.growth_plan.specs.Plan.{leaf_plan, over_plan, root_plan, root_over}
 use Rattle.growth_plan.specs.PlanLaws.{leaf_row, above_row, over_row, root_row}
 use Rattle.growth.specs.Outcome.{node}
-use Rattle.growth.specs.Growth.{Result, result, node_at, served, grown_at, grown_by, add_leaf, add_over, add_root}
+use Rattle.growth.specs.Growth.{Result, growth_result, node_at, served, grown_at, grown_by, add_leaf, add_over, add_root}
 use Rattle.renumber_exact.specs.SizeWalkExact.{more_one}
 use Rattle.growth_exact.specs.GivenMarks.{label_given, marks, says_label, says_face, says_opening, given_most, given_tallied}
 use Rattle.growth_exact.specs.PlanExact.{plan, joined_parts, plan_stored_lem, plan_fits, plan_step}
@@ -114,7 +114,7 @@ module _ {c : ℕ} (p : Parts) (w : List ℕ) (s : State) (fit : Fits c p) (r : 
   h = head_row p s.count fit r room g named
 
   abbrev left : Result
-  left = result (joined_parts fit (site p s.count fit r room g named) (marks t g)) (counted w (label_given g))
+  left = growth_result (joined_parts fit (site p s.count fit r room g named) (marks t g)) (counted w (label_given g))
       (node_at s.count (rows d.layer h) h)
 
   free : has_room w c (label_given g) ≡ true
@@ -122,7 +122,7 @@ module _ {c : ℕ} (p : Parts) (w : List ℕ) (s : State) (fit : Fits c p) (r : 
 
   outcome_is : grown_by p w scratch (Grow (plan fit (site p s.count fit r room g named) (marks t g))) ≡ left
   unfolding grown_by grown_at served
-  outcome_is = rw (le-leb least_scratch scratch long, with_told p w fit k.long, free) (ap (λ (x : Stored). result x.parts (counted w (label_given g)) (node_at s.count x.given h)) (plan_stored_lem fit (site p s.count fit r room g named) (marks t g)))
+  outcome_is = rw (le-leb least_scratch scratch long, with_told p w fit k.long, free) (ap (λ (x : Stored). growth_result x.parts (counted w (label_given g)) (node_at s.count x.given h)) (plan_stored_lem fit (site p s.count fit r room g named) (marks t g)))
 
   left_exactly : GrownExactly c p s g left
   left_exactly =

@@ -3,7 +3,7 @@ use Rattle.std.specs.Prelude.{◌≡◌, refl, Bool, List, [], ℤ, ℕ, length}
 use Rattle.table.specs.Parts.{Parts, level_at}
 use Rattle.table.specs.declared.state.State.{State}
 use Rattle.growth.specs.Outcome.{Outcome}
-use Rattle.growth.specs.Growth.{result, add_leaf, add_root}
+use Rattle.growth.specs.Growth.{growth_result, add_leaf, add_root}
 use Rattle.query.specs.Outcome.{Outcome as QuestionOutcome, refusal as no_answer, answered}
 use Rattle.query.specs.Question.{question as ask}
 use Rattle.alike.specs.Outcome.{Outcome as AlikeOutcome, refusal as no_value, same}
@@ -22,17 +22,17 @@ pub record OfGrowth (letter : ℕ) (t : Parts) (s : State) (g : Outcome) (r : Se
   pub state : r.state ≡ state_after s g
 
 growth_report : (q : Call) (t : Parts) (w : List ℕ) (s : State) (g : Outcome) (r : Served) → OfGrowth (letter_of q) t s g r
-    → report_of t w r ≡ report_by q (after_growth s (result t w g))
+    → report_of t w r ≡ report_by q (after_growth s (growth_result t w g))
 growth_report q t w s g r o = rw (o.shown, o.rows, o.state)
 
 -- from the parts t and the tally w to u and w'
 module _ (t u : Parts) (w w' : List ℕ) (s : State) (g : Outcome) (r : Served) where
-  pub leaf_report : (v l a : ℕ) (scratch : List ℕ) → result u w' g ≡ add_leaf t w (length scratch) s v l a → OfGrowth (letter_of (leaf v l a scratch)) u s g r
+  pub leaf_report : (v l a : ℕ) (scratch : List ℕ) → growth_result u w' g ≡ add_leaf t w (length scratch) s v l a → OfGrowth (letter_of (leaf v l a scratch)) u s g r
       → report_of u w' r ≡ report (fast_of t w s) (leaf v l a scratch)
   unfolding report step
   leaf_report v l a scratch e o = rw (← e) (growth_report (leaf v l a scratch) u w' s g r o)
 
-  pub root_report : (named : Bool) (opening : ℕ) (scratch : List ℕ) → result u w' g ≡ add_root t w (length scratch) s named opening
+  pub root_report : (named : Bool) (opening : ℕ) (scratch : List ℕ) → growth_result u w' g ≡ add_root t w (length scratch) s named opening
       → OfGrowth (letter_of (root named opening scratch)) u s g r → report_of u w' r ≡ report (fast_of t w s) (root named opening scratch)
   unfolding report step
   root_report named opening scratch e o = rw (← e) (growth_report (root named opening scratch) u w' s g r o)

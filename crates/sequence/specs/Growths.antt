@@ -19,7 +19,7 @@ use Rattle.growth_plan.specs.declared.row.Planned.{Planned}
 use Rattle.growth_plan.specs.declared.row.Planned.TheVariants.{Refuse}
 use Rattle.growth.specs.Outcome.{Outcome, refused}
 use Rattle.tally.specs.FitLaws.{with_told}
-use Rattle.growth.specs.Growth.{Result, result, grown_by}
+use Rattle.growth.specs.Growth.{Result, growth_result, grown_by}
 use Rattle.growth.specs.GrowthLaws.{grow_short, grow_refused}
 use Rattle.growth_laws.specs.Growth.{Growth, Named, named_root, parent_of}
 use Rattle.growth_laws.specs.Grown.{Grown, Started}
@@ -153,7 +153,7 @@ module _ {c : ℕ} {f : Fast} {p : PlainList} {stored : StoredList} {total joini
     abbrev GrowthStep : Type 0
     GrowthStep = StepStands c f p stored total joinings q o (after_growth f.state (grown_by f.parts f.tally scratch z))
 
-    refused_by : (r : Refusal) → o ≡ refusal_of (number_of r) p → result f.parts f.tally (refused r) ≡ grown_by f.parts f.tally scratch z → GrowthStep
+    refused_by : (r : Refusal) → o ≡ refusal_of (number_of r) p → growth_result f.parts f.tally (refused r) ≡ grown_by f.parts f.tally scratch z → GrowthStep
     refused_by r e i = steps_by s q (plain_refusal (number_of r)) (refusal (number_of r)) e (ap (after_growth f.state) (sym i)) (still_refused s q (number_of r))
 
     -- by its plan, where the scratch fits
