@@ -8,7 +8,7 @@ use table::refusal::Refusal;
 
 // What the table keeps of a row beside its seat: its level; a label and a face, and the row that takes them, which is the row itself but where a new root
 // names an opening; and the row that will record it as its tree's root, or none.
-#[derive(Drop)]
+#[derive(Clone, Copy)]
 pub struct Marks {
     pub level: i32,
     pub labelled: u16,
@@ -17,7 +17,7 @@ pub struct Marks {
     pub tree: u16,
 }
 
-#[derive(Drop)]
+#[derive(Clone, Copy)]
 pub struct Plan {
     pub seat: Seat,
     pub marks: Marks,

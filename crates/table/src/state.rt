@@ -2,7 +2,7 @@
 ghost use Rattle.std.specs.Prelude.{◌≡◌};
 ghost use Rattle.table.specs.State.{is_standing};
 
-#[derive(Drop)]
+#[derive(Clone, Copy)]
 pub struct State {
     pub count: u16,
 }
