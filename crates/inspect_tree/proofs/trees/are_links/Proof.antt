@@ -1,7 +1,7 @@
 -- `are_links`: the chains of the rows below x end, and `rows` counts what they meet.
 use mathlib.Core.Path.{◌≡◌, refl}
 use Prim.Native.Nat.{◌-◌, ◌*◌, ◌≤◌}
-use Rattle.inspect_laws.specs.All.{Passed, passed_none, passed_by, passed_end, stopped_by}
+use Rattle.inspect_laws.proofs.All.{Passed, passed_none, passed_by, passed_end, stopped_by}
 use Rattle.inspect_laws.specs.Trees.{is_linked}
 use Rattle.inspect_tree.specs.Columns.{field_layer}
 use Rattle.inspect_tree.specs.Links.{rows_to, linked_by, met_most, own_most, rows_more, stop_links, all_links}

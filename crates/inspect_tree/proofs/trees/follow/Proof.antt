@@ -2,7 +2,7 @@
 use mathlib.Core.Path.{◌≡◌, refl, sym, ◌∙◌}
 use Prim.Native.Nat.{◌-◌, ◌≤◌}
 use native.Mathlib.Omega.{arith}
-use Rattle.inspect_laws.specs.All.{answer_no, answer_yes}
+use Rattle.inspect_laws.proofs.All.{answer_no, answer_yes}
 use Rattle.inspect_laws.specs.Trees.{chain_of}
 use Rattle.inspect_tree.specs.Columns.{field_layer}
 use Rattle.inspect_tree.specs.Links.{following, following_start, following_end, following_stop, following_on, following_full, same_by}
