@@ -24,7 +24,7 @@ use Rattle.growth_exact.specs.FirstExact.{StartedExactly, first_exact, root_firs
 use Rattle.plain_list.specs.PlainList.{PlainList, count_of, parent_of, with_first, with_leaf, with_root}
 use Rattle.plain_list.proofs.PlainListLaws.{node_count, root_count}
 use Rattle.plain_list.specs.PlainStep.{first as plain_first, leaf as plain_leaf, root as plain_root, root_over as plain_over, is_opening as plain_opening, refusal_of, plain_outcome}
-use Rattle.plain_list.specs.PlainStepLaws as plainly
+use Rattle.plain_list.proofs.PlainStepLaws as plainly
 use Rattle.plain_list.proofs.Proper.{root_first, proper_first, proper_leaf, proper_root}
 use Rattle.plain_list.proofs.Shows.{shows_node, shows_root}
 use Rattle.plain_list.specs.StoredList.{StoredList}

@@ -26,7 +26,7 @@ use Rattle.link_exact.specs.LinkServed.{LinkedExactly, link_misfit, link_unknown
 use Rattle.plain_list.specs.PlainList.{PlainList, count_of, parent_of, with_link}
 use Rattle.plain_list.proofs.PlainListLaws.{link_count, link_parent_root, link_parent_other}
 use Rattle.plain_list.specs.PlainStep.{refusal as plain_refusal, linked as plain_linked, link as plain_link, refusal_of, root_in, tree_count, plain_outcome}
-use Rattle.plain_list.specs.PlainStepLaws as plainly
+use Rattle.plain_list.proofs.PlainStepLaws as plainly
 use Rattle.plain_list.specs.Proper.{Proper}
 use Rattle.plain_list.proofs.Proper.{root_own, proper_link}
 use Rattle.plain_list.specs.Shows.{Shows}
