@@ -1,7 +1,7 @@
 -- `are_alike`: what is looked at first refuses, or the tree's root is found and the walk served.
 use Rattle.std.proofs.Common.{sym, ◌∙◌}
 use Rattle.query.specs.AskedLaws.{root_held}
-use Rattle.alike.specs.AlikeLaws.{alike_by}
+use Rattle.alike.proofs.AlikeLaws.{alike_by}
 use Rattle.alike.proofs.are_alike.Goals as goal
 
 pub served-requires : goal.served-requires

@@ -2,7 +2,7 @@
 use mathlib.Core.Path.{refl, sym, ◌∙◌}
 use Prim.Native.Nat.{◌-◌}
 use native.Mathlib.Omega.{arith}
-use Rattle.alike.specs.AlikeLaws.{walk_told, walk_lost, walk_on, walk_end}
+use Rattle.alike.proofs.AlikeLaws.{walk_told, walk_lost, walk_on, walk_end}
 use Rattle.alike.proofs.walked.Goals as goal
 
 pub loop-left-init : goal.loop-left-init

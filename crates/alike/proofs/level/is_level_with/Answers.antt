@@ -1,5 +1,5 @@
 -- `is_level_with`: two levels are equal exactly where their words are.
-use Rattle.table.specs.LevelLaws.{word_eq}
+use Rattle.table.proofs.LevelLaws.{word_eq}
 use Rattle.alike.proofs.level.is_level_with.Goals as goal
 
 pub returns : goal.returns

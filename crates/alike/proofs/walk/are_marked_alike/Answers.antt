@@ -1,5 +1,5 @@
 -- `are_marked_alike`: the labels, and where they are equal the faces.
-use Rattle.alike.specs.AlikeLaws.{marked_unlike, marked_by_faces}
+use Rattle.alike.proofs.AlikeLaws.{marked_unlike, marked_by_faces}
 use Rattle.alike.proofs.walk.are_marked_alike.Goals as goal
 
 pub returns-then-field : goal.returns-then-field

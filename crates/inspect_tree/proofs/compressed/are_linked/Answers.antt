@@ -5,7 +5,7 @@ use mathlib.Core.Bool.{◌&&◌}
 use mathlib.Core.List.{List}
 use Rattle.inspect_laws.specs.Compressed.{is_path, is_upper}
 use Rattle.inspect_tree.specs.Columns.{field_layer}
-use Rattle.inspect_laws.specs.All.{passed_none, passed_by, passed_end, stopped_by}
+use Rattle.inspect_laws.proofs.All.{passed_none, passed_by, passed_end, stopped_by}
 use native.Mathlib.Omega.{arith}
 use Rattle.inspect_tree.proofs.compressed.are_linked.Goals as goal
 

@@ -5,7 +5,7 @@ use mathlib.Core.Bool.{◌&&◌}
 use mathlib.Core.List.{List}
 use Rattle.inspect_laws.specs.Compressed.{is_path, is_upper}
 use Rattle.inspect_tree.specs.Columns.{field_layer}
-use Rattle.inspect_laws.specs.All.{Passed}
+use Rattle.inspect_laws.proofs.All.{Passed}
 use Rattle.inspect_tree.proofs.compressed.are_linked.Given as goal
 
 -- the test of one row

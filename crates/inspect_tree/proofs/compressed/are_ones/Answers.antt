@@ -6,7 +6,7 @@ use mathlib.Core.List.{List}
 use lib.Dec.{eqb}
 use lib.ListN.{get_or}
 use borrow.Author.Tests.{eq-eqb, ne_eqb}
-use Rattle.inspect_laws.specs.All.{passed_none, passed_more, passed_end, passed_stop}
+use Rattle.inspect_laws.proofs.All.{passed_none, passed_more, passed_end, passed_stop}
 use native.Mathlib.Omega.{arith}
 use Rattle.inspect_tree.proofs.compressed.are_ones.Goals as goal
 

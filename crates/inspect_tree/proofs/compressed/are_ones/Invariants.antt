@@ -4,7 +4,7 @@ use mathlib.Core.Bool.{Bool}
 use mathlib.Core.List.{List}
 use lib.Dec.{eqb}
 use lib.ListN.{get_or}
-use Rattle.inspect_laws.specs.All.{Passed}
+use Rattle.inspect_laws.proofs.All.{Passed}
 use Rattle.inspect_tree.proofs.compressed.are_ones.Given as goal
 
 abbrev isOne : List ℕ → ℕ → Bool

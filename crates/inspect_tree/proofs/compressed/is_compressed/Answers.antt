@@ -1,5 +1,5 @@
 -- `is_compressed`: both passes answer their test of rule 2.
-use Rattle.inspect_laws.specs.All.{answer_no, answer_yes}
+use Rattle.inspect_laws.proofs.All.{answer_no, answer_yes}
 use Rattle.inspect_laws.specs.Compressed.{is_compressed}
 use Rattle.inspect_tree.specs.Stored.{linked_range}
 use Rattle.std.proofs.Common.{rules}

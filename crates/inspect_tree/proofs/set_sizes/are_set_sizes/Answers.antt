@@ -1,7 +1,7 @@
 -- `are_set_sizes`: the rows below x pass.
 use Rattle.inspect_laws.specs.SetSizes.{is_set_size, are_set_sizes}
 use Rattle.inspect_tree.specs.Columns.{field_layer}
-use Rattle.inspect_laws.specs.All.{passed_none, passed_by, passed_end, stopped_by}
+use Rattle.inspect_laws.proofs.All.{passed_none, passed_by, passed_end, stopped_by}
 use native.Mathlib.Omega.{arith}
 use Rattle.inspect_tree.proofs.set_sizes.are_set_sizes.Goals as goal
 

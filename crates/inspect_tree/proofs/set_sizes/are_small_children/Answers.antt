@@ -1,7 +1,7 @@
 -- `are_small_children`: the rows below x pass.
 use Rattle.inspect_laws.specs.SetSizes.{is_small_child, are_small_children}
 use Rattle.inspect_tree.specs.Columns.{field_layer}
-use Rattle.inspect_laws.specs.All.{passed_none, passed_by, passed_end, stopped_by}
+use Rattle.inspect_laws.proofs.All.{passed_none, passed_by, passed_end, stopped_by}
 use native.Mathlib.Omega.{arith}
 use Rattle.inspect_tree.proofs.set_sizes.are_small_children.Goals as goal
 

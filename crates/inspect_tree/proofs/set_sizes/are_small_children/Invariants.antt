@@ -2,7 +2,7 @@
 use Prim.Native.Nat.{◌-◌, ◌≤◌}
 use Rattle.inspect_laws.specs.SetSizes.{is_small_child}
 use Rattle.inspect_tree.specs.Columns.{field_layer}
-use Rattle.inspect_laws.specs.All.{Passed}
+use Rattle.inspect_laws.proofs.All.{Passed}
 use Rattle.inspect_tree.proofs.set_sizes.are_small_children.Given as goal
 
 abbrev pub invariant-loop-x : goal.invariant-loop-x

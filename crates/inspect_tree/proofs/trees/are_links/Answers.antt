@@ -1,6 +1,6 @@
 -- `are_links`: the chains of the rows below x end, and `rows` counts what they meet.
 use mathlib.Core.Path.{◌≡◌, refl}
-use Rattle.inspect_laws.specs.All.{passed_none, passed_by, passed_end, stopped_by}
+use Rattle.inspect_laws.proofs.All.{passed_none, passed_by, passed_end, stopped_by}
 use Rattle.inspect_laws.specs.Trees.{is_linked}
 use Rattle.inspect_tree.specs.Columns.{field_layer}
 use Rattle.inspect_tree.specs.Links.{linked_by, met_most, own_most, rows_more, stop_links, all_links}

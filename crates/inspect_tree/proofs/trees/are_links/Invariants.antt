@@ -1,7 +1,7 @@
 -- `are_links`: the chains of the rows below x end, and `rows` counts what they meet.
 use mathlib.Core.Path.{◌≡◌}
 use Prim.Native.Nat.{◌-◌, ◌*◌, ◌≤◌}
-use Rattle.inspect_laws.specs.All.{Passed}
+use Rattle.inspect_laws.proofs.All.{Passed}
 use Rattle.inspect_laws.specs.Trees.{is_linked}
 use Rattle.inspect_tree.specs.Columns.{field_layer}
 use Rattle.inspect_tree.specs.Links.{rows_to}

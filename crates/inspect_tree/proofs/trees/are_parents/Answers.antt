@@ -5,7 +5,7 @@ use mathlib.Core.List.{List}
 use mathlib.Core.Bool.{◌&&◌}
 use Rattle.inspect_laws.specs.Trees.{is_parent, is_depth}
 use Rattle.inspect_tree.specs.Columns.{field_layer}
-use Rattle.inspect_laws.specs.All.{passed_none, passed_by, passed_end, stopped_by}
+use Rattle.inspect_laws.proofs.All.{passed_none, passed_by, passed_end, stopped_by}
 use native.Mathlib.Omega.{arith}
 use Rattle.inspect_tree.proofs.trees.are_parents.Goals as goal
 

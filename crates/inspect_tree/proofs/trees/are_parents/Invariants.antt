@@ -5,7 +5,7 @@ use mathlib.Core.List.{List}
 use mathlib.Core.Bool.{◌&&◌}
 use Rattle.inspect_laws.specs.Trees.{is_parent, is_depth}
 use Rattle.inspect_tree.specs.Columns.{field_layer}
-use Rattle.inspect_laws.specs.All.{Passed}
+use Rattle.inspect_laws.proofs.All.{Passed}
 use Rattle.inspect_tree.proofs.trees.are_parents.Given as goal
 
 -- the test of one row

@@ -1,6 +1,6 @@
 -- `are_trees` is both passes.
 use Rattle.inspect_laws.specs.Trees.{are_trees}
-use Rattle.inspect_laws.specs.All.{answer_no, answer_yes}
+use Rattle.inspect_laws.proofs.All.{answer_no, answer_yes}
 use Rattle.inspect_tree.proofs.trees.are_trees.Goals as goal
 
 pub returns-then-not-are_parents : goal.returns-then-not-are_parents

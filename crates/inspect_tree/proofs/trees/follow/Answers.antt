@@ -1,7 +1,7 @@
 -- `follow`: the chain from c on, where `met` rows were met, is the chain of v.
 use mathlib.Core.Path.{refl, sym, ◌∙◌}
 use native.Mathlib.Omega.{arith}
-use Rattle.inspect_laws.specs.All.{answer_no, answer_yes}
+use Rattle.inspect_laws.proofs.All.{answer_no, answer_yes}
 use Rattle.inspect_tree.specs.Links.{following_start, following_end, following_stop, following_on, following_full, same_by}
 use Rattle.inspect_tree.proofs.trees.follow.Goals as goal
 
