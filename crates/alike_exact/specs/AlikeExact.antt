@@ -19,27 +19,29 @@ use Rattle.table.specs.Table.{Table}
 use Rattle.layer.specs.StoredTree.{first}
 use Rattle.table.specs.PlainTree.{plain}
 use Rattle.tree_laws.specs.Answer.{SameList, Alike as AlikeOver}
-use Rattle.table.specs.Rules.{Rules, numbered}
-use Rattle.layer_laws.specs.Numbered.{InTree, in_tree}
+use Rattle.table.specs.Rules.{Rules}
+use Rattle.table.proofs.Rules.{numbered}
+use Rattle.layer_laws.specs.Numbered.{InTree}
+use Rattle.layer_laws.proofs.Numbered.{in_tree}
 use Rattle.table_laws.specs.Lines.{root_in_lem}
 use Rattle.table_laws.specs.LevelLaws.{level_root}
 use Rattle.table_laws.specs.PlainRoot.{top_root}
 use Rattle.ancestry.specs.declared.stored.Fork.{Fork}
-use Rattle.ancestry_exact.specs.CompressedExact.{row_passes}
+use Rattle.ancestry_exact.proofs.CompressedExact.{row_passes}
 use Rattle.ancestry_exact.specs.ForkExact.{StoredExact}
-use Rattle.ancestry_exact.specs.StoredExact.{stored_exact}
+use Rattle.ancestry_exact.proofs.StoredExact.{stored_exact}
 use Rattle.query_exact.specs.PlainExact.{node_passes}
 use Rattle.query_exact.specs.PlainShape.{plain_depth_of, plain_shape, plain_depth_is, plain_parent_in, kindred_first, first_kindred}
 use Rattle.query_exact.specs.SoughtExact.{recorded, asked_one, asked_two}
-use Rattle.table.specs.CapacityLaws.{fits_told}
-use Rattle.table.specs.LevelLaws.{says_eq_z}
+use Rattle.table.proofs.CapacityLaws.{fits_told}
+use Rattle.table.proofs.LevelLaws.{says_eq_z}
 use Rattle.alike_exact.specs.ListLaws.{same_depth, alike_itself, alike_below, alike_above}
 use Rattle.alike_exact.specs.PlainParentExact.{plain_up_lem}
 use Rattle.alike.specs.declared.walk.Turn.TheVariants.{Told, On}
 use Rattle.alike.specs.Walk.{marked_alike, turn_at}
 use Rattle.alike.specs.Outcome.{Outcome, compared, refused}
 use Rattle.alike.specs.Alike.{after, walked, served, alike}
-use Rattle.alike.specs.AlikeLaws.{alike_by, alike_unknown_x, alike_unknown_y}
+use Rattle.alike.proofs.AlikeLaws.{alike_by, alike_unknown_x, alike_unknown_y}
 
 -- x and y have equal lists of labels and of faces on the plain trees of the table t
 abbrev pub Alike : Table → ℕ → ℕ → Type 0

@@ -7,8 +7,8 @@ use Rattle.tree_laws.specs.Depth.{Depth}
 use Rattle.tree_laws.specs.DepthLaws.{depth_forest}
 use Rattle.tree_laws.specs.Answer.{Listed, root, below, SameList, Alike}
 use Rattle.plain_list.specs.Naive.{list_of}
-use Rattle.plain_list.specs.AnswerLaws.{list_unique}
-use Rattle.plain_list.specs.NaiveLaws.{naive_list}
+use Rattle.plain_list.proofs.AnswerLaws.{list_unique}
+use Rattle.plain_list.proofs.NaiveLaws.{naive_list}
 
 -- lists that end alike: l and m before the last numbers a and b
 record SameEnd (l m : List ℕ) (a b : ℕ) : Type 0 where

@@ -10,8 +10,10 @@ use Rattle.table.specs.Capacity.{node_limit}
 use Rattle.table.specs.Table.{Table}
 use Rattle.layer.specs.Layer.{parent, depth}
 use Rattle.table.specs.PlainTree.{plain}
-use Rattle.table.specs.Rules.{Rules, numbered}
-use Rattle.layer_laws.specs.Numbered.{InTree, stored_tree}
+use Rattle.table.specs.Rules.{Rules}
+use Rattle.table.proofs.Rules.{numbered}
+use Rattle.layer_laws.specs.Numbered.{InTree}
+use Rattle.layer_laws.proofs.Numbered.{stored_tree}
 use Rattle.table_laws.specs.Lines.{root_in_lem}
 use Rattle.table_laws.specs.LevelLaws.{plain_tree}
 use Rattle.ancestry.specs.declared.stored.Fork.{Fork}

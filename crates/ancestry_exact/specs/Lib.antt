@@ -1,3 +1,2 @@
 pub mod CompressedExact
 pub mod ForkExact
-pub mod StoredExact

@@ -11,20 +11,21 @@ use Rattle.table.specs.Layout.{label_place, face_place, root_place}
 use Rattle.table.specs.Parts.{Parts, parts_of, with_level}
 use Rattle.table.specs.Capacity.{Fits}
 use Rattle.table.specs.Table.{Table, table_of}
-use Rattle.table.specs.Rules.{Rules, numbered}
+use Rattle.table.specs.Rules.{Rules}
+use Rattle.table.proofs.Rules.{numbered}
 use Rattle.table.specs.Scratch.{least_scratch}
 use Rattle.tally.specs.Tally.{TallyOf}
 use Rattle.tally.specs.FitLaws.{with_told}
 use Rattle.tally.specs.Count.{counted}
-use Rattle.tally_exact.specs.CountExact.{counted_tallied}
+use Rattle.tally_exact.proofs.CountExact.{counted_tallied}
 use Rattle.tally_exact.specs.RoomExact.{tallied_room}
-use Rattle.join_laws.specs.Extend.{extended_by}
+use Rattle.join_laws.proofs.Extend.{extended_by}
 use Rattle.growth_laws.specs.Growth.{Opens}
 use Rattle.growth_laws.specs.Grown.{Started}
 use Rattle.growth_laws.specs.GrowthFrame.{StartFrame}
-use Rattle.growth_laws.specs.GrowthKeepsRules.{start_keeps_rules, start_plain}
+use Rattle.growth_laws.proofs.GrowthKeepsRules.{start_keeps_rules, start_plain}
 use Rattle.join_laws.specs.Lag.{lag, worth, per_join}
-use Rattle.join_laws.specs.LoneLaws.{parted_lag}
+use Rattle.join_laws.proofs.LoneLaws.{parted_lag}
 use Rattle.growth_laws.specs.PlainStep.{PlainStart}
 use Rattle.growth_plan.specs.declared.row.Planned.TheVariants.{Start}
 use Rattle.join.specs.Lone.{lone_numbers, lone_entries}
@@ -33,9 +34,10 @@ use Rattle.growth_plan.specs.PlanLaws.{first_row, root_first}
 use Rattle.growth.specs.Outcome.{node}
 use Rattle.growth.specs.Growth.{Result, growth_result, node_at, started, grown_at, grown_by, add_first, add_root}
 use Rattle.growth_store.specs.Start.{started_fields}
-use Rattle.renumber_laws.specs.Column.{put, put_other}
+use Rattle.renumber_laws.specs.Column.{put}
+use Rattle.renumber_laws.proofs.Column.{put_other}
 use Rattle.renumber_exact.specs.Columns.{RowView, row_set}
-use Rattle.join_exact.specs.LoneExact.{own, fields, lone_long, lone_in, kept_in}
+use Rattle.join_exact.proofs.LoneExact.{own, fields, lone_long, lone_in, kept_in}
 use Rattle.growth_exact.specs.GivenMarks.{says_opening}
 use Rattle.growth_exact.specs.PlanExact.{layer_parts, long_parts}
 use Rattle.growth_exact.specs.GrowthExact.{table_grown, capacity_is, standing_is, count_more}

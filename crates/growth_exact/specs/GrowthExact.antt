@@ -9,37 +9,39 @@ use Rattle.table.specs.declared.capacity.Fit.TheVariants.{Capacity}
 use Rattle.table.specs.declared.state.State.{State}
 use Rattle.table.specs.Parts.{Parts}
 use Rattle.table.specs.Capacity.{Fits, capacity_of}
-use Rattle.table.specs.CapacityLaws.{capacity_fits}
+use Rattle.table.proofs.CapacityLaws.{capacity_fits}
 use Rattle.table.specs.Table.{Table, table_of}
 use Rattle.table.specs.Tree.{root_at}
 use Rattle.table.specs.State.{is_standing}
-use Rattle.table.specs.StateLaws.{says_standing}
+use Rattle.table.proofs.StateLaws.{says_standing}
 use Rattle.table.specs.Rules.{label_limit, face_limit}
 use Rattle.layer.specs.StoredTree.{first}
 use Rattle.table.specs.PlainTree.{root as root_in}
-use Rattle.table.specs.Rules.{Rules, numbered}
+use Rattle.table.specs.Rules.{Rules}
+use Rattle.table.proofs.Rules.{numbered}
 use Rattle.table.specs.Scratch.{least_scratch}
 use Rattle.tally.specs.Tally.{TallyOf}
 use Rattle.tally.specs.FitLaws.{with_told}
 use Rattle.tally.specs.Count.{has_room, counted}
 use Rattle.tally_exact.specs.RoomExact.{tallied_room}
-use Rattle.layer_laws.specs.Numbered.{InTree, in_tree, first_is}
+use Rattle.layer_laws.specs.Numbered.{InTree}
+use Rattle.layer_laws.proofs.Numbered.{in_tree, first_is}
 use Rattle.table_laws.specs.LevelBounds.{level_small}
 use Rattle.table_laws.specs.Lines.{root_in_lem}
 use Rattle.table_laws.specs.TreeTests.{tree_is, root_is}
 use Rattle.growth_laws.specs.Growth.{Growth, leaf, root, Opens, Named, named_leaf, named_root, tree_of}
 use Rattle.join_laws.specs.Extend.{with_lone}
 use Rattle.growth_laws.specs.Grown.{Grown}
-use Rattle.growth_laws.specs.GrownLaws.{growth_pays}
+use Rattle.growth_laws.proofs.GrownLaws.{growth_pays}
 use Rattle.join_laws.specs.Frame.{HeadRows}
-use Rattle.join_laws.specs.FrameLaws.{join_head}
+use Rattle.join_laws.proofs.FrameLaws.{join_head}
 use Rattle.growth_laws.specs.GrowthFrame.{GrowthFrame}
-use Rattle.growth_laws.specs.GrowthKeepsRules.{growth_plain}
+use Rattle.growth_laws.proofs.GrowthKeepsRules.{growth_plain}
 use Rattle.join_laws.specs.Lag.{lag, worth, per_join}
 use Rattle.growth_laws.specs.PlainStep.{PlainStep}
 use Rattle.join_laws.specs.Renumbered.{rows}
 use Rattle.join_laws.specs.StartOrder.{StartOrder}
-use Rattle.join_laws.specs.StartOrderLaws.{order_after}
+use Rattle.join_laws.proofs.StartOrderLaws.{order_after}
 use Rattle.growth_plan.specs.declared.row.Planned.{Planned}
 use Rattle.growth_plan.specs.declared.row.Planned.TheVariants.{Grow}
 use Rattle.growth_store.specs.Store.{Stored}

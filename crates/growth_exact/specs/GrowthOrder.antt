@@ -5,10 +5,10 @@ use Rattle.table.specs.declared.state.State.{State}
 use Rattle.table.specs.Parts.{Parts}
 use Rattle.layer.specs.Layer.{Layer, upper, start}
 use Rattle.layer.specs.Numbered.{Numbered}
-use Rattle.table.specs.Rules.{numbered}
+use Rattle.table.proofs.Rules.{numbered}
 use Rattle.growth_laws.specs.Growth.{Growth}
 use Rattle.join_laws.specs.PathOrder.{Before}
-use Rattle.join_laws.specs.PathOrderLaws.{before_starts, starts_before}
+use Rattle.join_laws.proofs.PathOrderLaws.{before_starts, starts_before}
 use Rattle.join_laws.specs.Renumbered.{Below}
 use Rattle.growth.specs.Growth.{Result}
 use Rattle.growth_exact.specs.GrowthExact.{table_grown, GrownExactly}

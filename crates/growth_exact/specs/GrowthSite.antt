@@ -15,18 +15,20 @@ use Rattle.table.specs.Level.{level_limit}
 use Rattle.layer.specs.StoredTree.{first}
 use Rattle.table.specs.Table.{Table, table_of}
 use Rattle.layer.specs.Layer.{Layer}
-use Rattle.table.specs.Rules.{Rules, numbered}
+use Rattle.table.specs.Rules.{Rules}
+use Rattle.table.proofs.Rules.{numbered}
 use Rattle.layer.specs.Numbered.{Numbered}
-use Rattle.layer_laws.specs.Numbered.{shape, in_tree, first_in}
-use Rattle.layer_laws.specs.SoundRows.{numbered_sound}
+use Rattle.layer_laws.proofs.Numbered.{shape, in_tree, first_in}
+use Rattle.layer_laws.proofs.SoundRows.{numbered_sound}
 use Rattle.table_laws.specs.LevelBounds.{level_depth, abs_suc, abs_pred}
 use Rattle.growth_laws.specs.Growth.{Growth, leaf, root, Named, named_leaf, named_root, parent_of, face_of, level_of, tree_of}
-use Rattle.join_laws.specs.Extend.{with_lone, row_old, entry_old, extend, extend_alone}
+use Rattle.join_laws.specs.Extend.{with_lone}
+use Rattle.join_laws.proofs.Extend.{row_old, entry_old, extend, extend_alone}
 use Rattle.growth_laws.specs.Grown.{Grown}
 use Rattle.growth_laws.specs.GrowthFrame.{GrowthFrame}
-use Rattle.growth_laws.specs.GrowthFrameLaws.{grown_frame}
-use Rattle.growth_laws.specs.GrowthKeepsRules.{growth_keeps_rules}
-use Rattle.join_laws.specs.LoneLaws.{parted_numbered}
+use Rattle.growth_laws.proofs.GrowthFrameLaws.{grown_frame}
+use Rattle.growth_laws.proofs.GrowthKeepsRules.{growth_keeps_rules}
+use Rattle.join_laws.proofs.LoneLaws.{parted_numbered}
 use Rattle.join_laws.specs.Renumbered.{rows}
 use Rattle.growth_plan.specs.declared.row.Planned.TheVariants.{Grow}
 use Rattle.layer.specs.Checked.{is_row}
@@ -35,8 +37,8 @@ use Rattle.growth_plan.specs.declared.level.Level.TheVariants.{At}
 use Rattle.growth_plan.specs.Level.{level_from}
 use Rattle.growth_plan.specs.PlannedRow.{planned_row}
 use Rattle.renumber_laws.specs.Column.{put}
-use Rattle.join_exact.specs.Site.{Site}
-use Rattle.join_exact.specs.SeatExact.{h}
+use Rattle.join_exact.proofs.Site.{Site}
+use Rattle.join_exact.proofs.SeatExact.{h}
 use Rattle.growth_exact.specs.MarksExact.{Given}
 use Rattle.growth_exact.specs.GivenMarks.{label_given, labelled_row, marks, label_gives, face_gives, labelled_in, column_old, column_new}
 use Rattle.growth_exact.specs.PlanExact.{layer_parts, long_parts, plan, row_planned, joined_table, plan_step, plan_label, plan_face, mark_level, kept_level, plan_roots, plan_unused}

@@ -22,7 +22,8 @@ use Rattle.layer.specs.Write.{with_field}
 use Rattle.table.specs.Layout.{label_place, face_place, root_place}
 use Rattle.growth_plan.specs.declared.row.Marks.{Marks}
 use Rattle.growth_store.specs.Store.{given, marked}
-use Rattle.renumber_laws.specs.Column.{put, put_same, put_other}
+use Rattle.renumber_laws.specs.Column.{put}
+use Rattle.renumber_laws.proofs.Column.{put_same, put_other}
 use Rattle.renumber_exact.specs.Columns.{Holds, holds_set, set_same, set_other, set_link, put_at}
 
 -- fields that agree in the layer's places stand for the same layer

@@ -20,11 +20,12 @@ use Rattle.growth_plan.specs.declared.row.Planned.TheVariants.{Grow}
 use Rattle.growth_plan.specs.PlannedRow.{planned_row}
 use Rattle.growth_plan.specs.PlannedRowLaws.{on_seat}
 use Rattle.growth_store.specs.Store.{Stored, stored, marked, with_marks, plan_stored}
-use Rattle.renumber_laws.specs.Column.{put, put_other}
+use Rattle.renumber_laws.specs.Column.{put}
+use Rattle.renumber_laws.proofs.Column.{put_other}
 use Rattle.renumber_exact.specs.Lent.{Long}
 use Rattle.renumber_exact.specs.Columns.{Holds, put_at}
-use Rattle.join_exact.specs.Site.{Site}
-use Rattle.join_exact.specs.SeatExact.{h, seat, seat_found, joined_parts as joined, joined_layer, site_stored, site_long, site_step, site_rest, site_unused}
+use Rattle.join_exact.proofs.Site.{Site}
+use Rattle.join_exact.proofs.SeatExact.{h, seat, seat_found, joined_parts as joined, joined_layer, site_stored, site_long, site_step, site_rest, site_unused}
 use Rattle.growth_exact.specs.MarksExact.{Given, given_before, marked_holds, marked_layer, label_after, face_after, root_after}
 
 -- the parts of a table that are its layer's

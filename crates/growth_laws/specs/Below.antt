@@ -15,8 +15,9 @@ use Rattle.table.specs.Capacity.{node_limit}
 use Rattle.table.specs.Table.{Table}
 use Rattle.table.specs.PlainTree.{root, plain}
 use Rattle.table.specs.Line.{Rooted, OnLine, Level}
-use Rattle.table.specs.Rules.{label_limit, face_limit, Bounded, Recorded, Rules, numbered}
-use Rattle.join_laws.specs.Trees.{own_trees, stored, trees_within}
+use Rattle.table.specs.Rules.{label_limit, face_limit, Bounded, Recorded, Rules}
+use Rattle.table.proofs.Rules.{numbered}
+use Rattle.join_laws.proofs.Trees.{own_trees, stored, trees_within}
 
 -- row x joined as a leaf, one level below its parent
 pub record JoinedLeaf (d : Table) (x : ℕ) : Type 0 where

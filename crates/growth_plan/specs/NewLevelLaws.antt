@@ -7,7 +7,7 @@ use Rattle.std.specs.Int.{w32}
 use Rattle.std.proofs.lemmas.Bool.{lt-leb}
 use Rattle.laws.specs.Test.{pick}
 use Rattle.table.specs.Level.{is_level, level_limit}
-use Rattle.table.specs.LevelLaws.{level_fits}
+use Rattle.table.proofs.LevelLaws.{level_fits}
 use Rattle.growth_plan.specs.declared.level.Level.TheVariants.{At, Out}
 use Rattle.growth_plan.specs.Level.{level_from}
 

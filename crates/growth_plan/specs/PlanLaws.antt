@@ -10,9 +10,9 @@ use Rattle.table.specs.declared.state.State.{State}
 use Rattle.layer.specs.Layout.{field_stride, number_stride}
 use Rattle.table.specs.Parts.{Parts, level_at}
 use Rattle.table.specs.Capacity.{capacity_of}
-use Rattle.table.specs.CapacityLaws.{fits_capacity}
+use Rattle.table.proofs.CapacityLaws.{fits_capacity}
 use Rattle.table.specs.State.{is_standing}
-use Rattle.table.specs.StateLaws.{says_standing}
+use Rattle.table.proofs.StateLaws.{says_standing}
 use Rattle.table.specs.Tree.{tree_at, root_of, root_at}
 use Rattle.growth_plan.specs.declared.row.Planned.TheVariants.{Start, Refuse}
 use Rattle.layer.specs.Checked.{Holds}

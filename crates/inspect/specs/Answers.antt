@@ -6,7 +6,7 @@ use Rattle.layer.specs.Layer.{layer_of}
 use Rattle.table.specs.declared.state.State.{State}
 use Rattle.table.specs.Parts.{Parts}
 use Rattle.table.specs.State.{is_standing}
-use Rattle.table.specs.StateLaws.{says_standing}
+use Rattle.table.proofs.StateLaws.{says_standing}
 use Rattle.table.specs.Table.{table_of}
 use Rattle.tally.specs.Test.{is_tallied}
 use Rattle.inspect_laws.specs.Trees.{are_trees}

@@ -4,14 +4,16 @@ use Rattle.std.proofs.Common.{sym}
 use Rattle.laws.specs.Test.{says_false, says_get, says_not_get, all_to}
 use Rattle.layer.specs.Layer.{layer_of}
 use Rattle.layer.specs.Numbered.{row_limit}
-use Rattle.layer_laws.specs.Bounds.{end_small}
+use Rattle.layer_laws.proofs.Bounds.{end_small}
 use Rattle.inspect_laws.specs.Trees.{are_trees}
 use Rattle.inspect_laws.specs.Compressed.{is_compressed}
-use Rattle.inspect_laws.specs.CompressedLaws.{upper_forest, says_compressed}
-use Rattle.inspect_laws.specs.SetSizes.{are_set_sizes, are_small_children, says_set_sizes}
+use Rattle.inspect_laws.proofs.CompressedLaws.{upper_forest, says_compressed}
+use Rattle.inspect_laws.specs.SetSizes.{are_set_sizes, are_small_children}
+use Rattle.inspect_laws.proofs.SetSizes.{says_set_sizes}
 use Rattle.inspect_laws.specs.Nested.{are_nested}
 use Rattle.inspect_laws.specs.Entries.{are_entries}
-use Rattle.inspect_laws.specs.Numbered.{is_numbered, says_numbered}
+use Rattle.inspect_laws.specs.Numbered.{is_numbered}
+use Rattle.inspect_laws.proofs.Numbered.{says_numbered}
 use Rattle.inspect_tree.specs.Columns.{field_layer, span_layer, entry_layer}
 use Rattle.inspect_tree.specs.Stored.{Stored, stored_forest}
 use Rattle.inspect_spans.specs.Grouped.{Positive}

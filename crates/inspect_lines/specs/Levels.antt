@@ -6,7 +6,7 @@ use Rattle.std.specs.Int.Signed.{lt_z}
 use Rattle.std.specs.Int.{w32}
 use Rattle.laws.specs.Test.{says_eq, says_false}
 use Rattle.table.specs.Level.{eq_z}
-use Rattle.table.specs.LevelLaws.{says_eq_z}
+use Rattle.table.proofs.LevelLaws.{says_eq_z}
 
 pred_fits : (l a : ℤ) → SFits w32 l → lt_z l a ≡ true → SFits w32 a → SFits w32 (pred_ℤ a)
 pred_fits l (pos zero) f h g = record { sfits = omega arith }

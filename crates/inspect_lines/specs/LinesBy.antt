@@ -9,10 +9,10 @@ use Rattle.layer.specs.Layer.{parent, depth}
 use Rattle.layer.specs.Numbered.{Each}
 use Rattle.table.specs.Table.{Table}
 use Rattle.table.specs.Line.{OnLine}
-use Rattle.inspect_laws.specs.All.{all_same}
+use Rattle.inspect_laws.proofs.All.{all_same}
 use Rattle.inspect_tree.specs.Stored.{Stored, stored_forest}
 use Rattle.inspect_lines_laws.specs.Lines.{is_on_line, is_level_on, are_roots, are_levels}
-use Rattle.inspect_lines_laws.specs.LinesLaws.{RecordedRoot, says_roots, says_line}
+use Rattle.inspect_lines_laws.proofs.LinesLaws.{RecordedRoot, says_roots, says_line}
 use Rattle.inspect_lines.specs.Columns.{field_table, level_table}
 use Rattle.inspect_lines.specs.Marks.{LinesTo, is_on_lines, is_level_by_mark}
 

@@ -13,7 +13,7 @@ use Rattle.tally.specs.TallyLaws.{carriers_none, carriers_more, carriers_most, r
 use Rattle.tally.specs.Most.{most_of}
 use Rattle.tally.specs.Count.{raised}
 use Rattle.tally.specs.Test.{are_counts, is_tallied}
-use Rattle.inspect_laws.specs.All.{all_same, answer_no, answer_yes}
+use Rattle.inspect_laws.proofs.All.{all_same, answer_no, answer_yes}
 
 -- the label of each row
 abbrev pub labels : List ℕ → ℕ → ℕ

@@ -5,9 +5,9 @@ use Rattle.laws.specs.Test.{says_get}
 use Rattle.tree_laws.specs.Ancestor.{none, Forest}
 use Rattle.tree_laws.specs.DepthLaws.{depth_forest}
 use Rattle.inspect_laws.specs.Trees.{are_trees}
-use Rattle.inspect_laws.specs.TreesLaws.{trees_depths, says_trees}
+use Rattle.inspect_laws.proofs.TreesLaws.{trees_depths, says_trees}
 use Rattle.inspect_laws.specs.Compressed.{are_linked}
-use Rattle.inspect_laws.specs.CompressedLaws.{linked_forest}
+use Rattle.inspect_laws.proofs.CompressedLaws.{linked_forest}
 use Rattle.inspect_tree.specs.Columns.{field_layer, parents, depths, uppers}
 use Rattle.inspect_tree.specs.Links.{InRange}
 

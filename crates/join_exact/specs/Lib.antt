@@ -1,11 +1,4 @@
 pub mod RaiseExact
-pub mod TopExact
 pub mod AttachExact
 pub mod CheckWalkExact
 pub mod Site
-pub mod JoinExact
-pub mod HeadExact
-pub mod CopiedExact
-pub mod StoreExact
-pub mod SeatExact
-pub mod LoneExact

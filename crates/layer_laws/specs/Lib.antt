@@ -1,7 +1,4 @@
 pub mod Numbered
 pub mod Step
 pub mod Nesting
-pub mod Bounds
 pub mod CompressedStep
-pub mod TreeEntry
-pub mod SoundRows

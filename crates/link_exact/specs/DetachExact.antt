@@ -21,17 +21,19 @@ use Rattle.table.specs.Table.{Table, table_of}
 use Rattle.layer.specs.Layer.{Layer, parent, depth}
 use Rattle.layer.specs.Entries.{entry_from}
 use Rattle.layer.specs.StoredTree.{first}
-use Rattle.table.specs.Rules.{Rules, numbered}
+use Rattle.table.specs.Rules.{Rules}
+use Rattle.table.proofs.Rules.{numbered}
 use Rattle.layer.specs.Numbered.{Numbered}
-use Rattle.renumber_laws.specs.Column.{put, put_same, put_other}
-use Rattle.link_laws.specs.Turn.{turned_up, turned_off, turned_here, turned_on}
+use Rattle.renumber_laws.specs.Column.{put}
+use Rattle.renumber_laws.proofs.Column.{put_same, put_other}
+use Rattle.link_laws.proofs.Turn.{turned_up, turned_off, turned_here, turned_on}
 use Rattle.renumber_exact.specs.Columns.{Holds, holds_set, set_same, set_other}
 use Rattle.renumber_exact.specs.Lent.{Long, layer_in, SameRest}
-use Rattle.join_exact.specs.LoneExact.{lone_long, stands_alone, stays, lone_rest}
+use Rattle.join_exact.proofs.LoneExact.{lone_long, stands_alone, stays, lone_rest}
 use Rattle.join_laws.specs.Lone.{Lone, Kept}
-use Rattle.join_laws.specs.KeptLaws.{kept_same, kept_trans}
-use Rattle.layer_laws.specs.Numbered.{shape, stored_tree}
-use Rattle.layer_laws.specs.TreeEntry.{entry_first}
+use Rattle.join_laws.proofs.KeptLaws.{kept_same, kept_trans}
+use Rattle.layer_laws.proofs.Numbered.{shape, stored_tree}
+use Rattle.layer_laws.proofs.TreeEntry.{entry_first}
 use Rattle.link_laws.specs.Link.{target, Linkable}
 use Rattle.link_exact.specs.LinkExact.{Detached}
 use Rattle.renumber.specs.NumberWalk.{Written, written}

@@ -20,24 +20,25 @@ use Rattle.table.specs.Level.{level_limit}
 use Rattle.table.specs.Table.{Table, table_of}
 use Rattle.layer.specs.Layer.{parent, depth}
 use Rattle.layer.specs.Numbered.{Numbered}
-use Rattle.layer_laws.specs.Numbered.{shape}
+use Rattle.layer_laws.proofs.Numbered.{shape}
 use Rattle.table_laws.specs.LevelBounds.{abs_suc}
 use Rattle.join_laws.specs.Joined.{Planted}
-use Rattle.join_laws.specs.JoinStep.{JoinStep, step_planted, join_keeps}
+use Rattle.join_laws.specs.JoinStep.{JoinStep}
+use Rattle.join_laws.proofs.JoinStep.{step_planted, join_keeps}
 use Rattle.join_laws.specs.Renumbered.{rows}
 use Rattle.growth_laws.specs.GrowthFrame.{Untouched}
-use Rattle.growth_laws.specs.GrowthFrameLaws.{untouched_same, untouched_trans}
+use Rattle.growth_laws.proofs.GrowthFrameLaws.{untouched_same, untouched_trans}
 use Rattle.link_laws.specs.Joinings.{Marked, Joinings, done, next}
-use Rattle.link_laws.specs.JoiningsLaws.{Before}
+use Rattle.link_laws.proofs.JoiningsLaws.{Before}
 use Rattle.link_laws.specs.Link.{column_with}
 use Rattle.growth_plan.specs.declared.row.Marks.{Marks}
 use Rattle.growth_plan.specs.declared.level.Level.TheVariants.{At}
 use Rattle.growth_plan.specs.PlannedRow.{marks_of}
 use Rattle.growth_plan.specs.Level.{level_from}
 use Rattle.growth_store.specs.Store.{stored}
-use Rattle.renumber_laws.specs.Column.{put_other}
-use Rattle.join_exact.specs.Site.{Site}
-use Rattle.join_exact.specs.SeatExact.{h}
+use Rattle.renumber_laws.proofs.Column.{put_other}
+use Rattle.join_exact.proofs.Site.{Site}
+use Rattle.join_exact.proofs.SeatExact.{h}
 use Rattle.growth_exact.specs.PlanExact.{layer_parts, long_parts, row_planned, joined_parts, joined_table, plan_stored_lem, plan_fits, plan_step, plan_label, plan_face, mark_level, kept_level, plan_roots, plan_unused}
 use Rattle.growth_exact.specs.GrowthSite.{good_row}
 use Rattle.link_store.specs.JoinRow.{planned_stored, joined_under, join_row, join_all}

@@ -13,19 +13,20 @@ use Rattle.table.specs.Capacity.{Fits}
 use Rattle.table.specs.Table.{Table, table_of}
 use Rattle.layer.specs.Layer.{Layer, parent}
 use Rattle.layer.specs.StoredTree.{first}
-use Rattle.table.specs.Rules.{Rules, numbered}
+use Rattle.table.specs.Rules.{Rules}
+use Rattle.table.proofs.Rules.{numbered}
 use Rattle.layer.specs.Numbered.{Numbered}
 use Rattle.table_laws.specs.LevelLaws.{plain_tree, parent_in}
 use Rattle.table_laws.specs.LevelBounds.{level_depth}
 use Rattle.join_laws.specs.Lone.{Lone, Parted}
-use Rattle.join_laws.specs.LoneLaws.{parted_numbered}
+use Rattle.join_laws.proofs.LoneLaws.{parted_numbered}
 use Rattle.growth_laws.specs.GrowthFrame.{Untouched}
-use Rattle.growth_laws.specs.GrowthFrameLaws.{untouched_trans}
+use Rattle.growth_laws.proofs.GrowthFrameLaws.{untouched_trans}
 use Rattle.link_laws.specs.Link.{target, column_with, Linkable, Linked}
 use Rattle.link_laws.specs.LinkFrame.{LinkFrame}
-use Rattle.link_laws.specs.LinkFrameLaws.{link_elsewhere}
+use Rattle.link_laws.proofs.LinkFrameLaws.{link_elsewhere}
 use Rattle.link_laws.specs.Order.{is_of_tree, Order}
-use Rattle.link_laws.specs.OrderLaws.{link_order, link_ordered, order_once, order_before, some, in_x}
+use Rattle.link_laws.proofs.OrderLaws.{link_order, link_ordered, order_once, order_before, some, in_x}
 use Rattle.link_store.specs.JoinRow.{join_all}
 use Rattle.link_exact.specs.JoinsExact.{Waits, Joined, joins_exact}
 

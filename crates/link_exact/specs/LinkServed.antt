@@ -16,12 +16,13 @@ use Rattle.table.specs.Capacity.{Fits}
 use Rattle.layer.specs.StoredTree.{first}
 use Rattle.table.specs.PlainTree.{root}
 use Rattle.table.specs.Parts.{Parts}
-use Rattle.table.specs.Rules.{Rules, label_limit, numbered}
+use Rattle.table.specs.Rules.{Rules, label_limit}
+use Rattle.table.proofs.Rules.{numbered}
 use Rattle.table.specs.State.{is_standing}
-use Rattle.table.specs.StateLaws.{says_standing}
+use Rattle.table.proofs.StateLaws.{says_standing}
 use Rattle.table.specs.Table.{Table, table_of}
 use Rattle.table.specs.Tree.{tree_at, root_at}
-use Rattle.layer_laws.specs.Numbered.{in_tree, first_in}
+use Rattle.layer_laws.proofs.Numbered.{in_tree, first_in}
 use Rattle.table_laws.specs.Lines.{root_in_lem, root_label}
 use Rattle.table_laws.specs.TreeTests.{tree_is, root_is, same_tree, tree_same}
 use Rattle.tally.specs.Layout.{tally_length}
@@ -29,15 +30,16 @@ use Rattle.tally.specs.Tally.{TallyOf}
 use Rattle.tally.specs.Fit.{capacity_with}
 use Rattle.tally.specs.FitLaws.{with_told}
 use Rattle.tally.specs.Count.{is_movable, moved}
-use Rattle.tally_exact.specs.CountExact.{moved_tallied}
+use Rattle.tally_exact.proofs.CountExact.{moved_tallied}
 use Rattle.tally_exact.specs.RoomExact.{tallied_movable}
-use Rattle.inspect_exact.specs.Exact.{Passes, inspect_exact}
+use Rattle.inspect_exact.specs.Exact.{Passes}
+use Rattle.inspect_exact.proofs.Exact.{inspect_exact}
 use Rattle.inspect.specs.Inspects.{inspects}
 use Rattle.join_laws.specs.Lag.{lag, worth, per_join}
 use Rattle.growth_plan.specs.Plan.{is_label}
 use Rattle.link_laws.specs.Link.{Linkable, Linked, PlainLink}
 use Rattle.link_laws.specs.LinkFrame.{LinkFrame}
-use Rattle.link_laws.specs.LinkLaws.{link_keeps_rules, link_plain, link_pays}
+use Rattle.link_laws.proofs.LinkLaws.{link_keeps_rules, link_plain, link_pays}
 use Rattle.link_laws.specs.Order.{tree_rows}
 use Rattle.link_plan.specs.declared.Checked.{Checked}
 use Rattle.link_plan.specs.declared.Trees.{Trees}

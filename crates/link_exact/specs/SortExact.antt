@@ -16,23 +16,27 @@ use Rattle.tree_laws.specs.SizeDepth.{depth_below_lem}
 use Rattle.table.specs.Capacity.{Fits}
 use Rattle.table.specs.Parts.{Parts, level_at}
 use Rattle.layer.specs.Row.{entry_at}
-use Rattle.table.specs.Rules.{Rules, numbered}
+use Rattle.table.specs.Rules.{Rules}
+use Rattle.table.proofs.Rules.{numbered}
 use Rattle.layer.specs.Numbered.{Numbered}
 use Rattle.table.specs.Level.{is_level, level_limit}
 use Rattle.table.specs.Table.{Table, table_of}
 use Rattle.layer.specs.Layout.{tree_place}
 use Rattle.layer.specs.StoredTree.{first}
 use Rattle.table_laws.specs.LevelLaws.{level_root}
-use Rattle.layer_laws.specs.Numbered.{shape, InTree}
+use Rattle.layer_laws.specs.Numbered.{InTree}
+use Rattle.layer_laws.proofs.Numbered.{shape}
 use Rattle.table_laws.specs.LevelBounds.{level_depth}
-use Rattle.layer_laws.specs.TreeEntry.{entry_first}
-use Rattle.renumber_laws.specs.Column.{put, put_same, put_other}
+use Rattle.layer_laws.proofs.TreeEntry.{entry_first}
+use Rattle.renumber_laws.specs.Column.{put}
+use Rattle.renumber_laws.proofs.Column.{put_same, put_other}
 use Rattle.link_store.specs.Sort.{depth_below, cell_at, Sorted, sorted, put_front, placed_row, placed_rows, sorted_rows}
-use Rattle.link_laws.specs.Buckets.{Buckets, placed, sorted as sorted_to, sorted_levels}
-use Rattle.link_laws.specs.Levels.{level_of, level_of_lem}
+use Rattle.link_laws.proofs.Buckets.{Buckets, placed, sorted as sorted_to, sorted_levels}
+use Rattle.link_laws.specs.Levels.{level_of}
+use Rattle.link_laws.proofs.Levels.{level_of_lem}
 use Rattle.link_laws.specs.Link.{Linkable}
 use Rattle.link_laws.specs.Order.{is_of_tree}
-use Rattle.link_laws.specs.OrderLaws.{depth_under, deep, in_x, moved_get}
+use Rattle.link_laws.proofs.OrderLaws.{depth_under, deep, in_x, moved_get}
 
 -- a store in a scratch that reads as a column below c
 cell_put : {c : ℕ} (s : List ℕ) (i v : ℕ) (g : ℕ → ℕ) (y : ℕ) → length s ≡ c → y < c → cell_at s y ≡ g y → cell_at (set s i v) y ≡ put g i v y

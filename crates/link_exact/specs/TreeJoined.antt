@@ -11,9 +11,9 @@ use Rattle.growth_store.specs.Store.{stored}
 use Rattle.link_laws.specs.Levels.{levels_from}
 use Rattle.link_laws.specs.Link.{Linkable, Linked}
 use Rattle.link_laws.specs.LinkFrame.{LinkFrame}
-use Rattle.link_laws.specs.LinkLaws.{link_rows}
+use Rattle.link_laws.proofs.LinkLaws.{link_rows}
 use Rattle.link_laws.specs.Order.{is_of_tree, tree_rows}
-use Rattle.link_laws.specs.OrderLaws.{link_order, depth_under, link_ordered, order_length}
+use Rattle.link_laws.proofs.OrderLaws.{link_order, depth_under, link_ordered, order_length}
 use Rattle.link_store.specs.Detach.{detached}
 use Rattle.link_store.specs.JoinRow.{join_all}
 use Rattle.link_store.specs.JoinedTree.{joined_tree}

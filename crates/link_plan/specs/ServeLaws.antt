@@ -10,7 +10,7 @@ use Rattle.table.specs.declared.state.State.{State}
 use Rattle.table.specs.Capacity.{node_limit, on_fit}
 use Rattle.table.specs.Parts.{Parts}
 use Rattle.table.specs.State.{is_standing}
-use Rattle.table.specs.StateLaws.{says_standing}
+use Rattle.table.proofs.StateLaws.{says_standing}
 use Rattle.table.specs.Table.{table_of}
 use Rattle.table.specs.Tree.{tree_at, root_at}
 use Rattle.tree_laws.specs.Ancestor.{none}

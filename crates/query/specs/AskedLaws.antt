@@ -9,9 +9,9 @@ use Rattle.table.specs.declared.refusal.Refusal.TheVariants.{UnknownNode, Misfit
 use Rattle.table.specs.declared.state.State.{State}
 use Rattle.table.specs.Parts.{Parts}
 use Rattle.table.specs.Capacity.{Fits, capacity_of, on_fit}
-use Rattle.table.specs.CapacityLaws.{fits_capacity}
+use Rattle.table.proofs.CapacityLaws.{fits_capacity}
 use Rattle.table.specs.State.{is_standing}
-use Rattle.table.specs.StateLaws.{says_standing}
+use Rattle.table.proofs.StateLaws.{says_standing}
 use Rattle.query.specs.declared.tree.Sought.TheVariants.{Root, Refused}
 use Rattle.query.specs.Node.{Held}
 use Rattle.query.specs.Sought.{sought_in}

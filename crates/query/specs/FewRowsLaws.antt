@@ -19,7 +19,7 @@ use Rattle.table.specs.State.{is_standing}
 use Rattle.table.specs.Level.{is_level}
 use Rattle.table.specs.Parts.{Parts, level_at}
 use Rattle.table.specs.Capacity.{Fits}
-use Rattle.table.specs.CapacityLaws.{fits_told}
+use Rattle.table.proofs.CapacityLaws.{fits_told}
 use Rattle.table.specs.Table.{Table, table_of}
 use Rattle.ancestry.specs.declared.stored.Fork.{Fork}
 use Rattle.ancestry.specs.StoredAnswer.{Asked, lost, stored_answer, forked}

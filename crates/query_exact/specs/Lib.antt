@@ -2,4 +2,3 @@ pub mod PlainShape
 pub mod PlainExact
 pub mod SoughtExact
 pub mod QuestionExact
-pub mod ThreeAnswers

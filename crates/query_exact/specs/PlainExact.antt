@@ -13,14 +13,17 @@ use Rattle.table.specs.Level.{level_limit, is_level}
 use Rattle.table.specs.Table.{Table}
 use Rattle.layer.specs.Layer.{parent, depth}
 use Rattle.table.specs.PlainTree.{plain}
-use Rattle.table.specs.Rules.{Rules, numbered}
-use Rattle.layer_laws.specs.Numbered.{InTree, stored_tree, anc_tree}
+use Rattle.table.specs.Rules.{Rules}
+use Rattle.table.proofs.Rules.{numbered}
+use Rattle.layer_laws.specs.Numbered.{InTree}
+use Rattle.layer_laws.proofs.Numbered.{stored_tree, anc_tree}
 use Rattle.table_laws.specs.LevelBounds.{level_small}
 use Rattle.table_laws.specs.Lines.{root_in_lem, line_over, over_line}
 use Rattle.table_laws.specs.LevelLaws.{tree_parent, tree_depth, level_distance, line_level, level_line}
 use Rattle.ancestry.specs.declared.stored.Fork.{Fork}
-use Rattle.ancestry_exact.specs.CompressedExact.{row_sound, row_passes}
-use Rattle.ancestry_exact.specs.ForkExact.{ForkExact, StoredExact, forked_exact}
+use Rattle.ancestry_exact.proofs.CompressedExact.{row_sound, row_passes}
+use Rattle.ancestry_exact.specs.ForkExact.{ForkExact, StoredExact}
+use Rattle.ancestry_exact.proofs.ForkExact.{forked_exact}
 use Rattle.query.specs.Line.{on_line, on_line_but}
 use Rattle.query.specs.LevelLaws.{says_minus}
 use Rattle.query.specs.Node.{is_node}

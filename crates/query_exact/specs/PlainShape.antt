@@ -12,8 +12,10 @@ use Rattle.table.specs.Capacity.{node_limit}
 use Rattle.table.specs.Table.{Table}
 use Rattle.layer.specs.StoredTree.{first}
 use Rattle.table.specs.PlainTree.{plain}
-use Rattle.table.specs.Rules.{Rules, numbered}
-use Rattle.layer_laws.specs.Numbered.{InTree, shape, stored_tree, in_tree, first_is, stored_kindred}
+use Rattle.table.specs.Rules.{Rules}
+use Rattle.table.proofs.Rules.{numbered}
+use Rattle.layer_laws.specs.Numbered.{InTree}
+use Rattle.layer_laws.proofs.Numbered.{shape, stored_tree, in_tree, first_is, stored_kindred}
 use Rattle.table_laws.specs.Lines.{root_in_lem}
 use Rattle.table_laws.specs.LevelLaws.{tree_parent, tree_depth, plain_tree, parent_in}
 

@@ -7,13 +7,15 @@ use Rattle.table.specs.declared.refusal.Refusal.TheVariants.{OtherTree}
 use Rattle.table.specs.declared.state.State.{State}
 use Rattle.table.specs.Parts.{Parts}
 use Rattle.table.specs.Capacity.{node_limit, Fits}
-use Rattle.table.specs.CapacityLaws.{fits_told}
-use Rattle.table.specs.StateLaws.{says_standing}
+use Rattle.table.proofs.CapacityLaws.{fits_told}
+use Rattle.table.proofs.StateLaws.{says_standing}
 use Rattle.table.specs.Table.{Table, table_of}
 use Rattle.layer.specs.StoredTree.{first}
 use Rattle.table.specs.PlainTree.{root}
-use Rattle.table.specs.Rules.{Rules, numbered}
-use Rattle.layer_laws.specs.Numbered.{InTree, in_tree, first_in}
+use Rattle.table.specs.Rules.{Rules}
+use Rattle.table.proofs.Rules.{numbered}
+use Rattle.layer_laws.specs.Numbered.{InTree}
+use Rattle.layer_laws.proofs.Numbered.{in_tree, first_in}
 use Rattle.table_laws.specs.Lines.{root_in_lem}
 use Rattle.table_laws.specs.TreeTests.{tree_is, recorded_is}
 use Rattle.query.specs.declared.tree.Sought.TheVariants.{Root, Refused}

@@ -7,7 +7,8 @@ use Rattle.std.proofs.Math.Seq.{set_out}
 use Rattle.laws.specs.Strided.{other_field, other_row, same_field}
 use Rattle.tree_laws.specs.Ancestor.{none}
 use Rattle.layer.specs.Numbered.{row_limit}
-use Rattle.renumber_laws.specs.Column.{put, put_same, put_other}
+use Rattle.renumber_laws.specs.Column.{put}
+use Rattle.renumber_laws.proofs.Column.{put_same, put_other}
 
 -- a part of w numbers to a row holds the rows below c, and no others
 pub record Holds (w c : ℕ) (l : List ℕ) : Type 0 where

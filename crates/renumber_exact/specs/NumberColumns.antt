@@ -10,7 +10,8 @@ use Rattle.layer.specs.Layout.{field_stride, number_stride, entry_stride, upper_
 use Rattle.layer.specs.Row.{field_at, number_at, entry_at}
 use Rattle.layer.specs.Entries.{entry_from, entry_above}
 use Rattle.layer.specs.Write.{with_field, with_number}
-use Rattle.renumber_laws.specs.Column.{put, put_same, put_other}
+use Rattle.renumber_laws.specs.Column.{put}
+use Rattle.renumber_laws.proofs.Column.{put_same, put_other}
 use Rattle.renumber_laws.specs.Numbers.{Numbers, placed}
 use Rattle.renumber.specs.Entries.{with_entries}
 use Rattle.renumber.specs.NumberWalk.{Written, placed_row, started, row_numbered}

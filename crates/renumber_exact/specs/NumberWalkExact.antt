@@ -16,15 +16,17 @@ use Rattle.layer.specs.Row.{field_at, number_at}
 use Rattle.layer.specs.Layer.{Layer, parent, depth, upper}
 use Rattle.join_laws.specs.Renumbered.{Below, rows}
 use Rattle.tree_laws.specs.SizeDepth.{size_le as size_count}
-use Rattle.join_laws.specs.Trees.{uppers}
+use Rattle.join_laws.proofs.Trees.{uppers}
 use Rattle.renumber_laws.specs.Sizes.{Sizing}
 use Rattle.renumber_laws.specs.SizesSwept.{Sized}
 use Rattle.renumber_laws.specs.Numbers.{Numbers, head_start, head_placed, size_of, numbered_below}
 use Rattle.renumber_laws.specs.Carried.{Carried, carried_visit, Coming}
-use Rattle.renumber_laws.specs.Loop.{turns, Turning}
-use Rattle.renumber_laws.specs.Renumbering.{links_of, sizes_of, numbers_of, Renumberable}
-use Rattle.renumber_laws.specs.RenumberingLaws.{sized_start}
-use Rattle.renumber_laws.specs.WalkedLaws.{Under, last_numbers, last_placed, numbers_walked}
+use Rattle.renumber_laws.specs.Loop.{Turning}
+use Rattle.renumber_laws.proofs.Loop.{turns}
+use Rattle.renumber_laws.specs.Renumbering.{sizes_of, numbers_of, Renumberable}
+use Rattle.renumber_laws.proofs.Renumbering.{links_of}
+use Rattle.renumber_laws.proofs.RenumberingLaws.{sized_start}
+use Rattle.renumber_laws.proofs.WalkedLaws.{Under, last_numbers, last_placed, numbers_walked}
 use Rattle.renumber.specs.declared.place.Place.{Place}
 use Rattle.renumber.specs.declared.number_walk.Numbering.{Numbering}
 use Rattle.counts.specs.Count.{steps_of}

@@ -11,9 +11,10 @@ use Rattle.join_laws.specs.Renumbered.{Below, rows, Renumbered}
 use Rattle.renumber_laws.specs.Sizes.{Sizing}
 use Rattle.renumber_laws.specs.SizesSwept.{Sized}
 use Rattle.renumber_laws.specs.Numbers.{Numbers}
-use Rattle.renumber_laws.specs.Renumbering.{links_of, sizes_of, numbers_of, with_columns, Renumberable}
-use Rattle.renumber_laws.specs.WalkedLaws.{last_numbers, last_renumbered, last_unused}
-use Rattle.renumber_laws.specs.SameRowsLaws.{SameRow, kept_row, renumbered_same}
+use Rattle.renumber_laws.specs.Renumbering.{sizes_of, numbers_of, with_columns, Renumberable}
+use Rattle.renumber_laws.proofs.Renumbering.{links_of}
+use Rattle.renumber_laws.proofs.WalkedLaws.{last_numbers, last_renumbered, last_unused}
+use Rattle.renumber_laws.proofs.SameRowsLaws.{SameRow, kept_row, renumbered_same}
 use Rattle.renumber.specs.declared.Head.{Head}
 use Rattle.counts.specs.Count.{steps_of}
 use Rattle.renumber.specs.SizeWalk.{size_walk}

@@ -18,11 +18,13 @@ use Rattle.tree_laws.specs.SizeDepth.{size_le as size_count}
 use Rattle.join_laws.specs.Renumbered.{rows}
 use Rattle.renumber_laws.specs.Sizes.{Sizing, linked, opened, counted, kept_heavy, closed, offered, size_visit}
 use Rattle.renumber_laws.specs.SizesSwept.{Sized as TrueSizes}
-use Rattle.renumber_laws.specs.SizesLaws.{closed_size, left_met}
-use Rattle.renumber_laws.specs.Loop.{turns, Turning}
-use Rattle.renumber_laws.specs.Renumbering.{links_of, sizes_of, Renumberable}
-use Rattle.renumber_laws.specs.RenumberingLaws.{stored_tree}
-use Rattle.renumber_laws.specs.WalkedLaws.{Under, SizesWalked, sizes_walked}
+use Rattle.renumber_laws.proofs.SizesLaws.{closed_size, left_met}
+use Rattle.renumber_laws.specs.Loop.{Turning}
+use Rattle.renumber_laws.proofs.Loop.{turns}
+use Rattle.renumber_laws.specs.Renumbering.{sizes_of, Renumberable}
+use Rattle.renumber_laws.proofs.Renumbering.{links_of}
+use Rattle.renumber_laws.proofs.RenumberingLaws.{stored_tree}
+use Rattle.renumber_laws.proofs.WalkedLaws.{Under, SizesWalked, sizes_walked}
 use Rattle.renumber.specs.declared.place.Place.{Place}
 use Rattle.renumber.specs.declared.size_walk.Sizing.{Sizing as At}
 use Rattle.counts.specs.Count.{one_more, steps_of}

@@ -1,15 +1,7 @@
 -- A column of a layer as a function of the row, and a store at one row of it.
-use Rattle.std.specs.Prelude.{◌≡◌, refl, ◌≢◌, ℕ, eqb}
-use Rattle.laws.specs.Test.{says_true, says_false, says_eqb, pick}
+use Rattle.std.specs.Prelude.{ℕ, eqb}
+use Rattle.laws.specs.Test.{pick}
 
 -- column f with v at row x
 unfoldable pub put : {A : Type 0} → (ℕ → A) → ℕ → A → ℕ → A
 put f x v y = pick (eqb y x) v (f y)
-
-pub put_same : {A : Type 0} (f : ℕ → A) (x : ℕ) (v : A) → put f x v x ≡ v
-unfolding put
-put_same f x v = rw (says_true (says_eqb x x) refl)
-
-pub put_other : {A : Type 0} (f : ℕ → A) (x : ℕ) (v : A) (y : ℕ) → y ≢ x → put f x v y ≡ f y
-unfolding put
-put_other f x v y d = rw (says_false (says_eqb y x) d)

@@ -1,6 +1,5 @@
 -- What a visit of the walk for numbers leaves, read back, and what holds when some of the rows below the head are placed.
 use Rattle.std.specs.Prelude.{◌≡◌, ◌≢◌, List, [], ◌∷◌, ℕ, ◌+◌, ◌*◌, ◌≤◌, ◌<◌, eqb}
-use Rattle.std.proofs.Common.{ap, ◌∙◌}
 use Rattle.laws.specs.Test.{bit}
 use Rattle.laws.specs.Sum.{sum_of}
 use Rattle.laws.specs.Fourth.{fourth}
@@ -10,8 +9,7 @@ use Rattle.tree_laws.specs.Compressed.{Apex, PathChild, UpperStep}
 use Rattle.span.specs.Constants.{width}
 use Rattle.span.specs.Numbers.{p_of, end_of, reach_of}
 use Rattle.layer.specs.Entries.{entry_from, entry_above, entry_through}
-use Rattle.renumber_laws.specs.Column.{put, put_same, put_other}
-use Rattle.renumber_laws.specs.Numbers.{Numbers, placed, head_start}
+use Rattle.renumber_laws.specs.Numbers.{Numbers, head_start}
 
 -- One visit
 
@@ -34,26 +32,6 @@ pub record Placed (c d : Numbers) (x u a k : ℕ) : Type 0 where
   pub above : u ≢ x → d.next_free u ≡ end_of a k
   pub others : (y : ℕ) → y ≢ x → Kept c d y
   pub next_frees : (y : ℕ) → y ≢ x → y ≢ u → d.next_free y ≡ c.next_free y
-
-pub placed_is : (x u a k : ℕ) (c : Numbers) → Placed c (placed x u a k c) x u a k
-unfolding placed
-placed_is x u a k c = record {
-  upper = put_same c.upper x u;
-  size = put_same c.size x k;
-  set_size = put_same c.set_size x k;
-  start = put_same c.start x a;
-  next_free = put_same (put c.next_free u (end_of a k)) x (p_of a k);
-  entry = λ i. ap (λ (f : ℕ → ℕ). f i) (put_same c.entry x _);
-  above = λ d. put_other (put c.next_free u (end_of a k)) x (p_of a k) u d ∙ put_same c.next_free u (end_of a k);
-  others = λ y d. record {
-    upper = put_other c.upper x u y d;
-    size = put_other c.size x k y d;
-    set_size = put_other c.set_size x k y d;
-    start = put_other c.start x a y d;
-    entry = λ i. ap (λ (f : ℕ → ℕ). f i) (put_other c.entry x _ y d);
-  };
-  next_frees = λ y d e. put_other (put c.next_free u (end_of a k)) x (p_of a k) y d ∙ put_other c.next_free u (end_of a k) y e;
-}
 
 -- Some rows
 

@@ -2,17 +2,12 @@
 -- for numbers.
 use Rattle.std.specs.Prelude.{ℕ, ◌<◌}
 use Rattle.tree_laws.specs.Compressed.{Apex}
-use Rattle.tree_laws.specs.Siblings.{Links}
 use Rattle.layer.specs.Layer.{Layer, parent, upper, path, size, set_size, start, next_free}
 use Rattle.layer.specs.StoredTree.{ChildLinks}
 use Rattle.layer.specs.Numbered.{Each}
 use Rattle.join_laws.specs.Trees.{OwnTrees}
 use Rattle.renumber_laws.specs.Sizes.{Sizing}
 use Rattle.renumber_laws.specs.Numbers.{Numbers}
-
--- the links that a walk in the order of the child links goes by
-abbrev pub links_of : Layer → Links
-links_of m = record { parent = parent m; first = λ x. (m.row x).first; next = λ x. (m.row x).next }
 
 -- what the walk for sizes begins with
 abbrev pub sizes_of : Layer → Sizing

@@ -2,12 +2,6 @@ pub mod Calls
 pub mod Run
 pub mod Agrees
 pub mod Invariant
-pub mod Tally
 pub mod StepExact
-pub mod Trees
-pub mod AskedSteps
-pub mod Growths
-pub mod GrowthSteps
-pub mod LinkSteps
 pub mod SequenceExact
 pub mod ScratchFree

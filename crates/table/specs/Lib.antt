@@ -1,7 +1,6 @@
 pub mod Layout
 pub mod Parts
 pub mod Capacity
-pub mod CapacityLaws
 pub mod Scratch
 pub mod Table
 pub mod Tree
@@ -10,6 +9,4 @@ pub mod PlainTree
 pub mod Rules
 pub mod Refusal
 pub mod State
-pub mod StateLaws
 pub mod Level
-pub mod LevelLaws

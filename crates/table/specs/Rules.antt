@@ -1,14 +1,12 @@
 -- The rules of inspection, in 01's order and words: those of the layer, and of rule 1 what a table knows beside its trees.
 use Rattle.std.specs.Prelude.{◌≡◌, ℕ, ◌≤◌}
-use Rattle.std.proofs.Common.{arith}
 use Rattle.tree_laws.specs.Ancestor.{none}
 use Rattle.layer.specs.Layer.{parent}
 use Rattle.layer.specs.CompressedTree.{SetSize, SmallChild}
 use Rattle.layer.specs.Entries.{Entries}
-use Rattle.layer.specs.Numbered.{Each, StoredTrees, Compressed, Nested, Numbered}
+use Rattle.layer.specs.Numbered.{Each, StoredTrees, Compressed, Nested}
 use Rattle.table.specs.Table.{Table}
 use Rattle.table.specs.Line.{Rooted, Level}
-use Rattle.table.specs.Capacity.{node_limit}
 
 -- labels go from 0 to 9,999
 abbrev pub label_limit : ℕ
@@ -51,19 +49,3 @@ pub record Rules (capacity : ℕ) (t : Table) : Type 0 where
   pub four : Each t.layer (SmallChild t.layer)
   pub five : Nested t.layer
   pub six : Each t.layer (Entries t.layer)
-
--- its layer is numbered: the nodes of a table are no more than a layer may have rows
-pub numbered : {capacity : ℕ} {t : Table} → Rules capacity t → capacity ≤ node_limit → Numbered t.layer
-numbered r small =
-    let s = r.one.trees in
-    record {
-      one = record { count = omega (arith, s.count); inside = s.inside; depth = s.depth; children = s.children };
-      two = r.two;
-      three = r.three;
-      four = r.four;
-      five = r.five;
-      six = r.six;
-    }
-
-pub rules_of : {capacity : ℕ} {t : Table} → Recorded capacity t → Numbered t.layer → Rules capacity t
-rules_of one r = record { one = one; two = r.two; three = r.three; four = r.four; five = r.five; six = r.six }

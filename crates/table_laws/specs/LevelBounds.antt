@@ -9,8 +9,9 @@ use Rattle.layer.specs.Layer.{parent, depth}
 use Rattle.table.specs.Table.{Table}
 use Rattle.table.specs.Capacity.{node_limit}
 use Rattle.table.specs.Level.{level_limit}
-use Rattle.table.specs.Rules.{Rules, numbered}
-use Rattle.layer_laws.specs.Numbered.{shape, stored_tree}
+use Rattle.table.specs.Rules.{Rules}
+use Rattle.table.proofs.Rules.{numbered}
+use Rattle.layer_laws.proofs.Numbered.{shape, stored_tree}
 use Rattle.table_laws.specs.Lines.{dec_line}
 
 -- a level one up or down is at most one greater in size

@@ -17,9 +17,11 @@ use Rattle.table.specs.Line.{OnLine}
 use Rattle.table.specs.PlainTree.{plain}
 use Rattle.tree_laws.specs.Top.{kindred_top}
 use Rattle.tree_laws.specs.Depth.{Steps, arrived, step}
-use Rattle.table.specs.Rules.{Rules, numbered}
+use Rattle.table.specs.Rules.{Rules}
+use Rattle.table.proofs.Rules.{numbered}
 use Rattle.table.specs.PlainTree.{root}
-use Rattle.layer_laws.specs.Numbered.{shape, stored_tree, InTree, stored_kindred, in_tree, first_is, anc_tree}
+use Rattle.layer_laws.specs.Numbered.{InTree}
+use Rattle.layer_laws.proofs.Numbered.{shape, stored_tree, stored_kindred, in_tree, first_is, anc_tree}
 use Rattle.table_laws.specs.Lines.{root_in_lem, line_over, over_line, dec_line}
 
 -- how far the level of row x lies above minus its depth: not at all exactly on the line

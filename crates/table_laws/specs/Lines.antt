@@ -10,8 +10,10 @@ use Rattle.table.specs.PlainTree.{root}
 use Rattle.table.specs.Table.{Table}
 use Rattle.layer.specs.Layer.{parent}
 use Rattle.table.specs.Line.{OnLine}
-use Rattle.table.specs.Rules.{Rules, numbered}
-use Rattle.layer_laws.specs.Numbered.{stored_tree, InTree, in_tree, first_in}
+use Rattle.table.specs.Rules.{Rules}
+use Rattle.table.proofs.Rules.{numbered}
+use Rattle.layer_laws.specs.Numbered.{InTree}
+use Rattle.layer_laws.proofs.Numbered.{stored_tree, in_tree, first_in}
 
 module _ {capacity : ℕ} {t : Table} (r : Rules capacity t) (fits : capacity ≤ node_limit) where
   -- the root of a tree is one of its rows

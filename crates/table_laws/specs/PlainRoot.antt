@@ -9,8 +9,10 @@ use Rattle.table.specs.Capacity.{node_limit}
 use Rattle.table.specs.Table.{Table}
 use Rattle.layer.specs.Layer.{parent, depth}
 use Rattle.table.specs.PlainTree.{root, plain}
-use Rattle.table.specs.Rules.{Rules, numbered}
-use Rattle.layer_laws.specs.Numbered.{stored_tree, InTree, in_tree, stored_kindred}
+use Rattle.table.specs.Rules.{Rules}
+use Rattle.table.proofs.Rules.{numbered}
+use Rattle.layer_laws.specs.Numbered.{InTree}
+use Rattle.layer_laws.proofs.Numbered.{stored_tree, in_tree, stored_kindred}
 use Rattle.table_laws.specs.Lines.{root_in_lem}
 use Rattle.table_laws.specs.LevelLaws.{plain_tree}
 

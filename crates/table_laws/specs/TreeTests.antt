@@ -7,11 +7,13 @@ use Rattle.table.specs.Capacity.{node_limit}
 use Rattle.layer.specs.StoredTree.{first}
 use Rattle.table.specs.PlainTree.{root}
 use Rattle.table.specs.Table.{table_of}
-use Rattle.table.specs.Rules.{Rules, numbered}
+use Rattle.table.specs.Rules.{Rules}
+use Rattle.table.proofs.Rules.{numbered}
 use Rattle.table.specs.Tree.{in_use, tree_at, root_of, root_at}
-use Rattle.layer_laws.specs.Numbered.{InTree, in_tree, first_in, first_is}
+use Rattle.layer_laws.specs.Numbered.{InTree}
+use Rattle.layer_laws.proofs.Numbered.{in_tree, first_in, first_is}
 use Rattle.table_laws.specs.Lines.{root_in_lem}
-use Rattle.layer_laws.specs.TreeEntry.{entry_first}
+use Rattle.layer_laws.proofs.TreeEntry.{entry_first}
 
 -- a row in use is itself
 in_use_is : {n y : ℕ} → y < n → in_use n y ≡ y

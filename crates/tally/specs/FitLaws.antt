@@ -5,7 +5,7 @@ use Rattle.laws.specs.Test.{Says, holds, pick, says_eqb, says_true, says_false}
 use Rattle.table.specs.declared.capacity.Fit.{Fit}
 use Rattle.table.specs.declared.capacity.Fit.TheVariants.{Capacity, Misfit}
 use Rattle.table.specs.Capacity.{Fits, capacity_of}
-use Rattle.table.specs.CapacityLaws.{fits_capacity, fits_told}
+use Rattle.table.proofs.CapacityLaws.{fits_capacity, fits_told}
 use Rattle.table.specs.Parts.{Parts}
 use Rattle.tally.specs.Layout.{tally_length}
 use Rattle.tally.specs.Fit.{capacity_with}

@@ -3,7 +3,7 @@ use mathlib.Core.Path.{◌≡◌}
 use mathlib.Core.Bool.{true}
 use native.Mathlib.Omega.{arith}
 use Rattle.laws.specs.Test.{all_to}
-use Rattle.inspect_laws.specs.All.{answer_no, answer_yes}
+use Rattle.inspect_laws.proofs.All.{answer_no, answer_yes}
 use Rattle.inspect_laws.specs.Trees.{are_trees}
 use Rattle.inspect_laws.specs.Compressed.{is_compressed}
 use Rattle.inspect_laws.specs.SetSizes.{are_set_sizes, are_small_children}

@@ -4,7 +4,7 @@ use mathlib.Core.List.{List}
 use mathlib.Core.Bool.{Bool, ◌&&◌}
 use Rattle.inspect_lines_laws.specs.Bounded.{is_within, is_root_zero, are_bounded}
 use Rattle.inspect_lines.specs.Columns.{column, field_table}
-use Rattle.inspect_laws.specs.All.{Passed, passed_none, passed_by, passed_end, stopped_by}
+use Rattle.inspect_laws.proofs.All.{Passed, passed_none, passed_by, passed_end, stopped_by}
 use borrow.Author.Rules.{rules}
 use native.Mathlib.Omega.{arith}
 use Rattle.inspect_lines.proofs.bounded.are_bounded.Statement.{statement}

@@ -2,7 +2,7 @@
 use Prim.Native.Nat.{◌-◌, ◌≤◌}
 use Rattle.inspect_lines.specs.Columns.{level_table}
 use Rattle.inspect_lines.specs.Marks.{is_level_by_mark}
-use Rattle.inspect_laws.specs.All.{Passed, passed_none, passed_by, passed_end, stopped_by}
+use Rattle.inspect_laws.proofs.All.{Passed, passed_none, passed_by, passed_end, stopped_by}
 use borrow.Author.Rules.{rules}
 use native.Mathlib.Omega.{arith}
 use Rattle.inspect_lines.proofs.lines.are_levels.Statement.{statement}

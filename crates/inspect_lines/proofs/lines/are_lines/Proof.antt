@@ -2,7 +2,7 @@
 use mathlib.Core.Path.{◌≡◌, ◌∙◌}
 use mathlib.Core.Bool.{true}
 use borrow.Author.Tests.{not-false}
-use Rattle.inspect_laws.specs.All.{answer_no, answer_yes}
+use Rattle.inspect_laws.proofs.All.{answer_no, answer_yes}
 use Rattle.inspect_lines_laws.specs.Lines.{are_roots, are_lines}
 use Rattle.inspect_lines.specs.Columns.{field_table}
 use Rattle.inspect_lines.specs.LinesBy.{marked_levels}

@@ -4,7 +4,7 @@ use mathlib.Core.Path.{◌∙◌}
 use lib.IntN.{pos}
 use mir.Syntax.{w32}
 use mir.ValLaws.{to_z-of_z}
-use Rattle.table.specs.LevelLaws.{word_eq}
+use Rattle.table.proofs.LevelLaws.{word_eq}
 use Rattle.inspect_lines.specs.Levels.{less_more}
 use borrow.Author.Rules.{rules}
 use native.Mathlib.Omega.{arith}

@@ -1,7 +1,7 @@
 -- `is_one_less`: the difference is taken where it fits.
 use mir.Syntax.{w32}
 use mir.ValLaws.{to_z-of_z}
-use Rattle.table.specs.LevelLaws.{word_eq}
+use Rattle.table.proofs.LevelLaws.{word_eq}
 use Rattle.inspect_lines.specs.Levels.{less_fits, not_less}
 use Rattle.inspect_lines.proofs.lines.is_one_less.Statement.{statement}
 use Rattle.inspect_lines.proofs.lines.is_one_less.Tie as tie

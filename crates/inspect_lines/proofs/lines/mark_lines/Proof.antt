@@ -2,7 +2,7 @@
 use mathlib.Core.Path.{◌≡◌, refl}
 use Prim.Native.Nat.{◌-◌, ◌≤◌}
 use lib.ListN.{length}
-use Rattle.inspect_laws.specs.All.{Passed, passed_none, passed_by, passed_end, stopped_by}
+use Rattle.inspect_laws.proofs.All.{Passed, passed_none, passed_by, passed_end, stopped_by}
 use Rattle.inspect_lines_laws.specs.Lines.{is_rooted}
 use Rattle.inspect_lines.specs.Columns.{field_table}
 use Rattle.inspect_lines.specs.Marks.{LinesTo, lines_none, lines_more, lines_stop, lines_end}

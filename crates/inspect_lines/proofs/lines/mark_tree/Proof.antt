@@ -1,6 +1,6 @@
 -- `mark_tree` by whether the row has a parent, and by its root.
 use mathlib.Core.Path.{sym, ◌∙◌}
-use Rattle.inspect_laws.specs.All.{answer_no, answer_yes}
+use Rattle.inspect_laws.proofs.All.{answer_no, answer_yes}
 use Rattle.inspect_lines.specs.Columns.{field_table}
 use Rattle.inspect_lines.specs.Marks.{tree_below, tree_stop, tree_marked}
 use borrow.Author.Rules.{rules}

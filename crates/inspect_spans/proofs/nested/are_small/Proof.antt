@@ -4,7 +4,7 @@ use mathlib.Core.Bool.{Bool}
 use mathlib.Core.List.{List}
 use Rattle.inspect_spans.specs.Small.{is_small}
 use Rattle.inspect_tree.specs.Columns.{span_layer}
-use Rattle.inspect_laws.specs.All.{Passed, passed_none, passed_by, passed_end, stopped_by}
+use Rattle.inspect_laws.proofs.All.{Passed, passed_none, passed_by, passed_end, stopped_by}
 use borrow.Author.Rules.{rules}
 use native.Mathlib.Omega.{arith}
 use Rattle.inspect_spans.proofs.nested.are_small.Statement.{statement}

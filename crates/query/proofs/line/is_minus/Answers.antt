@@ -4,7 +4,7 @@ use lib.IntN.{pos, neg_ℤ, +ℤ_idl}
 use mir.Syntax.{w32}
 use mir.ValLaws.{to_z_pos}
 use Rattle.query.specs.Line.{is_minus}
-use Rattle.table.specs.LevelLaws.{word_eq}
+use Rattle.table.proofs.LevelLaws.{word_eq}
 use Rattle.query.specs.LevelLaws.{minus_fits}
 use Rattle.query.proofs.line.is_minus.Goals as goal
 

@@ -2,7 +2,7 @@
 use mathlib.Core.Path.{refl}
 use native.Mathlib.Omega.{arith}
 use Rattle.table.specs.Parts.{parts_of}
-use Rattle.table.specs.CapacityLaws.{capacity_fits, capacity_misfit}
+use Rattle.table.proofs.CapacityLaws.{capacity_fits, capacity_misfit}
 use Rattle.table.proofs.capacity.capacity.Goals as goal
 
 pub returns-then-n-lt1 : goal.returns-then-n-lt1

@@ -2,7 +2,7 @@
 use lib.IntN.{◌-ℤ◌}
 use mir.Syntax.{w32}
 use mir.ValLaws.{to_z-of_z}
-use Rattle.table.specs.LevelLaws.{level_fits, difference_fits}
+use Rattle.table.proofs.LevelLaws.{level_fits, difference_fits}
 use Rattle.table.proofs.level.distance.Goals as goal
 
 pub overflow_sub-result : goal.overflow_sub-result

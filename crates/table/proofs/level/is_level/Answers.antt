@@ -1,7 +1,7 @@
 -- `is_level` is the test of a level, by two signed comparisons.
 use mir.Syntax.{w32}
 use mir.ValLaws.{to_z-of_z}
-use Rattle.table.specs.LevelLaws.{level_low, level_rest}
+use Rattle.table.proofs.LevelLaws.{level_low, level_rest}
 use Rattle.table.proofs.level.is_level.Goals as goal
 
 pub returns-then-l-lt-LOWEST_LEVEL : goal.returns-then-l-lt-LOWEST_LEVEL

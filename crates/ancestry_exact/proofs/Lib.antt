@@ -1,0 +1,3 @@
+pub mod CompressedExact
+pub mod ForkExact
+pub mod StoredExact

@@ -1,0 +1,5 @@
+pub mod ColumnLaws
+pub mod EmptyTable
+pub mod GrownLaws
+pub mod GrowthFrameLaws
+pub mod GrowthKeepsRules

@@ -1,0 +1,11 @@
+pub mod All
+pub mod Apart
+pub mod Choice
+pub mod CompressedLaws
+pub mod Dense
+pub mod EntriesLaws
+pub mod Nested
+pub mod Numbered
+pub mod Order
+pub mod SetSizes
+pub mod TreesLaws

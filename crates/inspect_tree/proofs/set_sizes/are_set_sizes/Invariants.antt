@@ -1,0 +1,12 @@
+-- `are_set_sizes`: the rows below x pass.
+use Prim.Native.Nat.{◌-◌, ◌≤◌}
+use Rattle.inspect_laws.specs.SetSizes.{is_set_size}
+use Rattle.inspect_tree.specs.Columns.{field_layer}
+use Rattle.inspect_laws.proofs.All.{Passed}
+use Rattle.inspect_tree.proofs.set_sizes.are_set_sizes.Given as goal
+
+abbrev pub invariant-loop-x : goal.invariant-loop-x
+invariant-loop-x l = (l.x ≤ l.n) × Passed (is_set_size (field_layer l.fields 0)) l.x
+
+abbrev pub decreases-loop-x : goal.decreases-loop-x
+decreases-loop-x l = l.n - l.x

@@ -1,0 +1,11 @@
+pub mod AttachExact
+pub mod CheckWalkExact
+pub mod CopiedExact
+pub mod HeadExact
+pub mod JoinExact
+pub mod LoneExact
+pub mod RaiseExact
+pub mod SeatExact
+pub mod Site
+pub mod StoreExact
+pub mod TopExact

@@ -1,0 +1,12 @@
+pub mod AnswerLaws
+pub mod Column
+pub mod Deeper
+pub mod Example
+pub mod Joinings
+pub mod NaiveLaws
+pub mod PlainListLaws
+pub mod PlainStepLaws
+pub mod PlainTallyLaws
+pub mod Proper
+pub mod Shows
+pub mod Stores

@@ -1,0 +1,2 @@
+pub mod QuestionExact
+pub mod ThreeAnswers

@@ -1,0 +1,16 @@
+pub mod CarriedLaws
+pub mod Column
+pub mod HeavyChild
+pub mod Largest
+pub mod Loop
+pub mod LoopLaws
+pub mod NumbersLaws
+pub mod NumbersOrder
+pub mod Placed
+pub mod PlacedLaws
+pub mod Renumbering
+pub mod RenumberingLaws
+pub mod SameRowsLaws
+pub mod SizesLaws
+pub mod SizesSwept
+pub mod WalkedLaws

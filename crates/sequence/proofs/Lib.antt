@@ -1,0 +1,10 @@
+pub mod AskedSteps
+pub mod GrowthSteps
+pub mod Growths
+pub mod Invariant
+pub mod LinkSteps
+pub mod ScratchFree
+pub mod SequenceExact
+pub mod StepExact
+pub mod Tally
+pub mod Trees

@@ -1,0 +1,5 @@
+pub mod Engine
+pub mod FacesLog
+pub mod OpeningsLog
+pub mod StarredCases
+pub mod WorkedLog

@@ -1,0 +1,4 @@
+pub mod CapacityLaws
+pub mod LevelLaws
+pub mod Rules
+pub mod StateLaws
