@@ -9,7 +9,7 @@ use Rattle.table.specs.Table.{Table}
 use Rattle.table.specs.Rules.{label_limit, face_limit, Rules}
 use Rattle.tally.specs.Tally.{Tallied, TallyOf}
 use Rattle.tally.specs.Count.{counted}
-use Rattle.tally_exact.specs.CountExact.{opened_tallied}
+use Rattle.tally_exact.proofs.CountExact.{opened_tallied}
 use Rattle.tally_exact.proofs.CountExact.{counted_tallied}
 use Rattle.table_laws.specs.Lines.{root_label}
 use Rattle.growth_laws.specs.Growth.{Growth, leaf, root, Opens, unnamed, opens, Named, named_leaf, named_root, label_of, face_of, opening_of, column_after, level_of, tree_of}

@@ -9,7 +9,7 @@ use Rattle.table.specs.Rules.{Lines, Labels, Faces}
 use Rattle.table.proofs.Rules.{numbered, rules_of}
 use Rattle.tally.specs.Layout.{tally_length}
 use Rattle.tally.specs.Tally.{Tallied}
-use Rattle.tally_exact.specs.TestExact.{says_tallied}
+use Rattle.tally_exact.proofs.TestExact.{says_tallied}
 use Rattle.layer_laws.proofs.Numbered.{stored_tree}
 use Rattle.inspect_laws.proofs.Numbered.{says_numbered}
 use Rattle.inspect_lines_laws.proofs.LinesLaws.{says_lines}

@@ -7,7 +7,7 @@ use Rattle.table.specs.Table.{Table}
 use Rattle.table.specs.Rules.{Rules}
 use Rattle.tally.specs.Layout.{tally_length}
 use Rattle.tally.specs.Tally.{Tallied}
-use Rattle.tally_exact.specs.TestExact.{says_tallied}
+use Rattle.tally_exact.proofs.TestExact.{says_tallied}
 use Rattle.tally_exact.proofs.CountExact.{cleared_tallied, tallied_zeros}
 use Rattle.inspect_laws.specs.Trees.{are_trees}
 use Rattle.inspect_laws.specs.Compressed.{is_compressed}

@@ -1,2 +1,3 @@
 pub mod QuestionExact
 pub mod ThreeAnswers
+pub mod QuestionAnswers

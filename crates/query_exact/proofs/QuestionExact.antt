@@ -1,55 +1,94 @@
--- What is proved of `QuestionExact`.
-use Rattle.std.specs.Prelude.{◌≡◌, ◌≢◌, ℕ, ◌<◌, pos}
+-- The outcome of a question is the answer on the plain trees, or refusal 12.
+use Rattle.std.specs.Prelude.{◌≡◌, ◌≢◌, ℕ, ◌≤◌, ◌<◌, pos}
 use Rattle.std.proofs.Math.Path.{refl}
-use Rattle.std.proofs.Common.{ap, ◌∙◌, arith}
-use Rattle.std.proofs.Math.Decide.{dec_lt, ℕ_discrete}
-use Rattle.tree_laws.specs.Ancestor.{here}
-use Rattle.tree_laws.specs.Depth.{arrived}
-use Rattle.tree_laws.specs.Nca.{itself}
-use Rattle.tree_laws.specs.NcaLaws.{nca_kindred}
-use Rattle.table.specs.declared.refusal.Refusal.TheVariants.{Corrupt}
+use Rattle.std.proofs.Common.{sym}
+use Rattle.tree_laws.specs.AncestorLaws.{anc_in}
+use Rattle.tree_laws.specs.DepthLaws.{steps_one, depth_forest}
+use Rattle.tree_laws.specs.Nca.{Kindred}
+use Rattle.tree_laws.specs.NcaLaws.{characteristic_unique}
+use Rattle.table.specs.declared.refusal.Refusal.TheVariants.{OtherTree}
 use Rattle.table.specs.declared.state.State.{State}
 use Rattle.table.specs.Parts.{Parts}
-use Rattle.table.specs.Capacity.{Fits}
-use Rattle.table.proofs.CapacityLaws.{fits_told}
+use Rattle.table.specs.Capacity.{node_limit, Fits}
+use Rattle.table.specs.Table.{Table}
 use Rattle.layer.specs.StoredTree.{first}
 use Rattle.table.specs.PlainTree.{plain}
 use Rattle.tree_laws.specs.Answer.{Answer, Answers}
 use Rattle.table.specs.Rules.{Rules}
-use Rattle.query.specs.Outcome.{answered, refused}
-use Rattle.query.specs.Question.{question}
-use Rattle.query.specs.QuestionLaws.{question_unknown_x, question_unknown_y}
-use Rattle.query_exact.specs.SoughtExact.{recorded}
-use Rattle.query_exact.specs.QuestionExact.{answers_one, given, other_tree, question_exact, tree_exact}
+use Rattle.table.proofs.Rules.{numbered}
+use Rattle.layer_laws.specs.Numbered.{InTree}
+use Rattle.layer_laws.proofs.Numbered.{in_tree}
+use Rattle.ancestry.specs.declared.stored.Fork.{Fork}
+use Rattle.ancestry_exact.specs.ForkExact.{ForkExact}
+use Rattle.ancestry_exact.proofs.StoredExact.{stored_exact}
+use Rattle.query.specs.Outcome.{Outcome, answered, refused}
+use Rattle.query.specs.Question.{is_served, served, question}
+use Rattle.query.specs.QuestionLaws.{question_by}
+use Rattle.query_exact.specs.PlainShape.{plain_shape, kindred_first, first_kindred}
+use Rattle.query_exact.specs.PlainExact.{level_passes, node_passes, plain_exact, distance_exact}
+use Rattle.query_exact.specs.SoughtExact.{recorded, asked_one, asked_two}
+use Rattle.query_exact.specs.QuestionExact.{given, ExactOutcome}
 
--- What follows from it
+-- Laws
 
-module _ {c : ℕ} (parts : Parts) (state : State) (f : Fits c parts) (r : Rules c (recorded parts state)) where
-  -- whatever is the answer on the plain trees is the outcome
-  pub question_answer : {x y : ℕ} {a : Answer} → x < state.count → y < state.count
-      → Answers (plain (recorded parts state)) (recorded parts state).label x y a → question parts state x y ≡ given a
-  question_answer {x} {y} l m h =
-      let e = question_exact parts state x y f r l m (nca_kindred h.characteristic.nca) in
-      e.outcome ∙ ap given (answers_one r f.most l m e.answers h)
+module _ {capacity : ℕ} {t : Table} (r : Rules capacity t) (fits : capacity ≤ node_limit) where
+  -- of an exact answer every test of the service passes, and levels give the distances
+  served_exact : {f : ℕ} (x y : ℕ) → InTree t.layer f x → InTree t.layer f y → (g : Fork) → ForkExact (plain t) x y g
+      → ExactOutcome t x y (served t x y g)
+  unfolding served is_served
+  served_exact {f} x y i j g a =
+      let u = distance_exact r fits i a.characteristic.nca.left in
+      let v = distance_exact r fits j a.characteristic.nca.right in
+      let l = anc_in (depth_forest (plain_shape r fits)) i.in_use a.characteristic.nca.left in
+      record {
+        value = record {
+          nca = g.nca;
+          to_x = g.to_x;
+          to_y = g.to_y;
+          distance_x = u.distance;
+          distance_y = v.distance;
+          label = t.label g.nca;
+        };
+        answers = record { characteristic = a.characteristic; distance_x = u.steps; distance_y = v.steps; label = refl };
+        outcome = rw (
+          node_passes r fits x i.in_use,
+          node_passes r fits y j.in_use,
+          level_passes r fits g.nca l,
+          a.sound,
+          u.levels,
+          v.levels,
+        );
+      }
 
-  -- a question on a node with itself gives it three times, at distances 0
-  pub question_itself : (x : ℕ) → x < state.count → question parts state x x ≡ answered x x x (pos 0) (pos 0) ((recorded parts state).label x)
-  question_itself x l = question_answer {a = record { nca = x; to_x = x; to_y = x; distance_x = 0; distance_y = 0; label = _ }} l l record {
-    characteristic = record { nca = record { left = here; right = here; deepest = λ b s _. s }; toward_x = itself refl; toward_y = itself refl };
-    distance_x = arrived;
-    distance_y = arrived;
-    label = refl;
-  }
+  -- two nodes have one answer
+  pub answers_one : {x y : ℕ} {a b : Answer} → x < t.layer.count → y < t.layer.count → Answers (plain t) t.label x y a → Answers (plain t) t.label x y b → a ≡ b
+  answers_one {x} {y} {a} {b} l m f g =
+      let tree = plain_shape r fits in
+      let e = characteristic_unique (depth_forest tree) l m f.characteristic g.characteristic in
+      let i : a.distance_x ≡ b.distance_x = steps_one tree l (rw e.nca at f.distance_x) g.distance_x in
+      let j : a.distance_y ≡ b.distance_y = steps_one tree m (rw e.nca at f.distance_y) g.distance_y in
+      let k : a.label ≡ b.label = cc in
+      rw (e.nca, e.to_x, e.to_y, i, j, k)
 
-  -- no question gives refusal 4, on whatever nodes
-  pub question_not_corrupt : (x y : ℕ) → question parts state x y ≢ refused Corrupt
-  question_not_corrupt x y e = elim (dec_lt x state.count) [
-    | no i ↦ let u = question_unknown_x parts state x y (fits_told f) (omega arith) in let z : ◌≡◌ {A = ℕ} 0 1 = cc in omega arith
-    | yes l ↦ elim (dec_lt y state.count) [
-      | no j ↦ let u = question_unknown_y parts state x y (fits_told f) l (omega arith) in let z : ◌≡◌ {A = ℕ} 0 1 = cc in omega arith
-      | yes m ↦ elim (ℕ_discrete (first (recorded parts state).layer x) (first (recorded parts state).layer y)) [
-        | yes k ↦ let u = (tree_exact parts state x y f r l m k).outcome in let z : ◌≡◌ {A = ℕ} 0 1 = cc in omega arith
-        | no d ↦ let u = other_tree parts state x y f r l m d in let z : ◌≡◌ {A = ℕ} 0 1 = cc in omega arith
-      ]
-    ]
-  ]
+module _ {c : ℕ} (parts : Parts) (state : State) (x y : ℕ) (fits : Fits c parts) (r : Rules c (recorded parts state))
+    (l : x < state.count) (m : y < state.count) where
+  -- by the first rows of their trees
+  pub tree_exact : first (recorded parts state).layer x ≡ first (recorded parts state).layer y → ExactOutcome (recorded parts state) x y (question parts state x y)
+  tree_exact e =
+      let i = in_tree (numbered r fits.most) x l in
+      let j : InTree (recorded parts state).layer (first (recorded parts state).layer x) y = rw e (in_tree (numbered r fits.most) y m) in
+      let a = plain_exact r fits.most (stored_exact (numbered r fits.most)) x y i j in
+      rw (← question_by parts state x y (asked_one parts state x y fits r l m e)) (served_exact r fits.most x y i j _ a)
+
+  pub other_tree : first (recorded parts state).layer x ≢ first (recorded parts state).layer y → question parts state x y ≡ refused OtherTree
+  other_tree d = sym (question_by parts state x y (asked_two parts state x y fits r l m d))
+
+-- The theorem
+
+pub question_exact : {c : ℕ} (parts : Parts) (state : State) (x y : ℕ) → Fits c parts → Rules c (recorded parts state) → x < state.count → y < state.count
+    → Kindred (plain (recorded parts state)) x y → ExactOutcome (recorded parts state) x y (question parts state x y)
+question_exact parts state x y f r l m k = tree_exact parts state x y f r l m (kindred_first r f.most l m k)
+
+pub question_other_tree : {c : ℕ} (parts : Parts) (state : State) (x y : ℕ) → Fits c parts → Rules c (recorded parts state) → x < state.count → y < state.count
+    → ¬ Kindred (plain (recorded parts state)) x y → question parts state x y ≡ refused OtherTree
+question_other_tree parts state x y f r l m k = other_tree parts state x y f r l m (λ e. k (first_kindred r f.most l m e))

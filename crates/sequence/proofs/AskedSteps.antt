@@ -17,7 +17,8 @@ use Rattle.query.specs.Question.{question as ask}
 use Rattle.query.specs.QuestionLaws.{question_unknown_x, question_unknown_y}
 use Rattle.table.proofs.CapacityLaws.{fits_told}
 use Rattle.tally.specs.FitLaws.{with_told}
-use Rattle.query_exact.specs.QuestionExact.{given, question_exact, question_other_tree}
+use Rattle.query_exact.specs.QuestionExact.{given}
+use Rattle.query_exact.proofs.QuestionExact.{question_exact, question_other_tree}
 use Rattle.alike.specs.Outcome.{Outcome as AlikeOutcome, refused as no_value}
 use Rattle.alike.specs.Alike.{alike as compare}
 use Rattle.alike.proofs.AlikeLaws.{alike_unknown_x, alike_unknown_y}

@@ -1,6 +1,6 @@
--- What is proved of `CountExact`.
+-- What the calls make of a true tally is a true tally.
 use Rattle.std.specs.Prelude.{◌≡◌, ◌≢◌, List, ℕ, suc, ◌+◌, ◌-◌, ◌≤◌, ◌<◌, eqb, length, get_or, replicate}
-use Rattle.std.proofs.Common.{sym, ap, ◌∙◌, add-one, arith, length-set, ext_get_or}
+use Rattle.std.proofs.Common.{sym, ap, ◌∙◌, add-one, arith, length-set, get_or-set_same, get_or-set_other, ext_get_or}
 use Rattle.std.proofs.Math.Decide.{ℕ_discrete}
 use Rattle.std.proofs.lemmas.List.{length-replicate}
 use Rattle.laws.specs.Test.{bit}
@@ -9,9 +9,11 @@ use Rattle.table.specs.Rules.{label_limit}
 use Rattle.tally.specs.Layout.{most_place, tally_length}
 use Rattle.tally.specs.Tally.{carriers, Tallied}
 use Rattle.tally.specs.TallyLaws.{carriers_none, carriers_more, raised_at, lowered_at, zero_cells}
-use Rattle.tally.specs.Count.{raised, lowered, counted, moved}
+use Rattle.tally.specs.Most.{most_of}
+use Rattle.tally.specs.Count.{with_most, raised, lowered, counted, moved}
+use Rattle.tally_exact.specs.CountExact.{carriers_at, has_one}
 use Rattle.tally_exact.specs.TestExact.{most_same}
-use Rattle.tally_exact.specs.CountExact.{carriers_at, counts_tallied, has_one}
+use Rattle.tally_exact.proofs.MostExact.{most_is}
 
 -- full counts of labels that agree
 pub carriers_same : (label label' : ℕ → ℕ) (n : ℕ) → ((x : ℕ) → x < n → label' x ≡ label x) → (k : ℕ) → carriers label n k ≡ carriers label' n k
@@ -23,6 +25,15 @@ tallied_same {label} {label'} {n} t e = record {
   long = t.long;
   counts = λ k l. t.counts k l ∙ carriers_same label label' n e k;
   most = most_same t.most (λ k _. carriers_same label label' n e k);
+}
+
+-- entries that are full counts, and the last found from them
+counts_tallied : {label : ℕ → ℕ} {n : ℕ} (w : List ℕ) → length w ≡ tally_length → ((k : ℕ) → k ≤ label_limit → get_or w k 0 ≡ carriers label n k) → Tallied label n (with_most w)
+unfolding with_most
+counts_tallied w e c = record {
+  long = length-set w most_place (most_of w) ∙ e;
+  counts = λ k l. get_or-set_other w most_place k (most_of w) 0 (λ z. omega arith) ∙ c k l;
+  most = rw (get_or-set_same w most_place (most_of w) 0 (omega arith)) (most_same (most_is w) c);
 }
 
 -- no node at all
@@ -60,6 +71,17 @@ counted_tallied {label} {label'} {n} {k} {w} t e i = counts_tallied (raised w k)
   where
     more : (j : ℕ) → carriers label' (suc n) j ≡ bit (eqb k j) + carriers label n j
     more j = rw (← add-one n) (carriers_more label' n j ∙ rw (i, carriers_same label label' n e j))
+
+-- a node more of label 0, and node x, which had label 0, has label k
+pub opened_tallied : {label label' : ℕ → ℕ} {n x k : ℕ} {w : List ℕ} → Tallied label n w → x < n → label x ≡ 0 → label' x ≡ k → ((y : ℕ) → y < n → y ≢ x → label' y ≡ label y) → label' n ≡ 0 → Tallied label' (suc n) (counted w k)
+opened_tallied {label} {label'} {n} {x} {k} {w} t l i o e z = counts_tallied (raised w k) (length-set w k (get_or w k 0 + 1) ∙ t.long) (λ j h.
+    rw (← add-one n) (omega (
+      arith,
+      raised_at w k j (omega (arith, t.long)),
+      t.counts j h,
+      rw z at (carriers_more label' n j),
+      rw (i, o) at (carriers_at label label' n x l e j),
+    )))
 
 -- a node that had the one label has the other
 pub moved_tallied : {label label' : ℕ → ℕ} {n x from to : ℕ} {w : List ℕ} → Tallied label n w → x < n → label x ≡ from → label' x ≡ to → from ≤ label_limit → ((y : ℕ) → y < n → y ≢ x → label' y ≡ label y) → Tallied label' n (moved w from to)

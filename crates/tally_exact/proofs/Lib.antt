@@ -1,1 +1,3 @@
+pub mod MostExact
 pub mod CountExact
+pub mod TestExact

@@ -1,4 +1,4 @@
+pub mod CountExact
 pub mod MostExact
 pub mod TestExact
-pub mod CountExact
 pub mod RoomExact
