@@ -9,7 +9,7 @@ ghost use Rattle.table.specs.Capacity.{Fits};
 ghost use Rattle.table.specs.Scratch.{least_scratch};
 ghost use Rattle.tally.specs.Layout.{tally_length};
 ghost use Rattle.bytes_tree.specs.Tree.{tree_rows, tree_bytes, state_in, parts_in, tally_in};
-ghost use Rattle.growth.specs.Outcome.{outcome_of as growthOf};
+ghost use Rattle.growth.specs.Outcome.{outcome_of as growth_of};
 ghost use Rattle.growth.specs.Growth.{add_leaf, add_root};
 ghost use Rattle.replies.specs.Reply.{is_named, reply};
 ghost use Rattle.desk_tree_growth.specs.TreeGrowthCalls.{outcome, tree_after, GrownHeld, GrowthHeld, leaf_tree, root_tree};
@@ -39,8 +39,8 @@ fn keep_grown(
     requires tree_len { length tree.old ≡ tree_bytes }
     requires fits { Fits tree_rows (parts_of fields.now numbers.now levels.now ancestors.now) }
     requires tally_len { length tally.now ≡ tally_length }
-    ensures tree { tree.new ≡ tree_after tree.old (parts_of fields.now numbers.now levels.now ancestors.now) tally.now (growthOf grown) }
-    ensures held { GrownHeld tree.new (parts_of fields.now numbers.now levels.now ancestors.now) tally.now (growthOf grown) }
+    ensures tree { tree.new ≡ tree_after tree.old (parts_of fields.now numbers.now levels.now ancestors.now) tally.now (growth_of grown) }
+    ensures held { GrownHeld tree.new (parts_of fields.now numbers.now levels.now ancestors.now) tally.now (growth_of grown) }
 {
     match grown {
         Grown::Node(g) => {
