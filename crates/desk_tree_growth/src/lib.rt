@@ -34,13 +34,13 @@ fn keep_grown(
     levels: &[i32],
     ancestors: &[u16],
     tally: &[u16],
-    grown: Grown,
+    grown: &Grown,
 )
     requires tree_len { length tree.old ≡ tree_bytes }
     requires fits { Fits tree_rows (parts_of fields.now numbers.now levels.now ancestors.now) }
     requires tally_len { length tally.now ≡ tally_length }
-    ensures tree { tree.new ≡ tree_after tree.old (parts_of fields.now numbers.now levels.now ancestors.now) tally.now (growth_of grown) }
-    ensures held { GrownHeld tree.new (parts_of fields.now numbers.now levels.now ancestors.now) tally.now (growth_of grown) }
+    ensures tree { tree.new ≡ tree_after tree.old (parts_of fields.now numbers.now levels.now ancestors.now) tally.now (growth_of grown.now) }
+    ensures held { GrownHeld tree.new (parts_of fields.now numbers.now levels.now ancestors.now) tally.now (growth_of grown.now) }
 {
     match grown {
         Grown::Node(g) => {
@@ -90,7 +90,7 @@ pub extern "C" fn nca_add_leaf(
         label,
         face,
     );
-    keep_grown(tree, &fields, &numbers, &levels, &ancestors, &tally, grown);
+    keep_grown(tree, &fields, &numbers, &levels, &ancestors, &tally, &grown);
     reply_grown(grown, out)
 }
 
@@ -127,6 +127,6 @@ pub extern "C" fn nca_add_root(tree: &mut [u8], named: u16, opening: u16, out: &
         named != 0,
         opening,
     );
-    keep_grown(tree, &fields, &numbers, &levels, &ancestors, &tally, grown);
+    keep_grown(tree, &fields, &numbers, &levels, &ancestors, &tally, &grown);
     reply_grown(grown, out)
 }

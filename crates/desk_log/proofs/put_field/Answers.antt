@@ -1,6 +1,5 @@
 -- `put_field` fills an out slice of that length.
-use mathlib.Core.Path.{ap}
-use mathlib.Core.List.{◌∷◌}
+use Rattle.std.proofs.Common.{ap, [], ◌∷◌}
 use Rattle.byte_numbers.specs.BytesLaws.{sets_all}
 use Rattle.replies.specs.Reply.{reply}
 use Rattle.desk_log.proofs.put_field.Goals as goal

@@ -8,4 +8,4 @@ returns-then-out-ne-MADE_OUT c = let a = c.args in set_up_misfit (parts_of a.fie
 
 pub returns : goal.returns
 returns c = let a = c.args in
-    set_up_served (parts_of a.fields.now a.numbers.now a.levels.now a.ancestors.now) _ a.tally.now _ a.out.now _ _ c.if-out-ne-MADE_OUT.false c.set_up-made.ensures.0 c.set_up-made.ensures.1.0 c.set_up-made.ensures.1.1 c.reply_made.ensures
+    set_up_served (parts_of a.fields.now a.numbers.now a.levels.now a.ancestors.now) _ a.tally.now _ a.out.now _ _ c.if-out-ne-MADE_OUT.false c.set_up-made.ensures.outcome c.set_up-made.ensures.after c.set_up-made.ensures.counts c.reply_made.ensures
