@@ -4,7 +4,14 @@ use Rattle.bytes_tree.specs.RoundTrip.{written_held}
 use Rattle.desk_tree_growth.proofs.keep_grown.Goals as goal
 
 pub returns-in-Node : goal.returns-in-Node
-returns-in-Node c = let g = c.grown.given.0.0 in record { tree = rw (c.grown.given.1, c.write_tree.ensures.0); held = rw c.grown.given.1 (written_held _ g.state (parts_of c.args.fields.now c.args.numbers.now c.args.levels.now c.args.ancestors.now) c.args.tally.now c.requires.fits c.requires.tally_len c.write_tree.ensures.0 c.write_tree.ensures.1) }
+returns-in-Node c =
+    let a = c.args in
+    record {
+      tree = rw (c.in-Node.is, c.write_tree.ensures.bytes);
+      held = rw c.in-Node.is
+          (written_held _ c.in-Node.g.state (parts_of a.fields.now a.numbers.now a.levels.now a.ancestors.now) a.tally.now c.requires.fits c.requires.tally_len
+          c.write_tree.ensures.bytes c.write_tree.ensures.range);
+    }
 
 pub returns-in-Refused : goal.returns-in-Refused
-returns-in-Refused c = record { tree = rw c.enum_told.given.1; held = rw c.enum_told.given.1 tt }
+returns-in-Refused c = record { tree = rw c.in-Refused.is; held = rw c.in-Refused.is tt }

@@ -11,10 +11,10 @@ pub returns-then-out-ne-GROWN_OUT : goal.returns-then-out-ne-GROWN_OUT
 returns-then-out-ne-GROWN_OUT c = record { answer = leaf_out_misfit c.args.tree.now c.args.out.now c.args.parent c.args.label c.args.face c.number_of-then-out-ne-GROWN_OUT.ensures c.if-tree-ne-BYTES.false c.if-out-ne-GROWN_OUT.true; held = λ z. misfit_held c.number_of-then-out-ne-GROWN_OUT.ensures z }
 
 pub keep_grown-requires : goal.keep_grown-requires
-keep_grown-requires c = record { tree_len = c.if1.false; fits = search rules; tally_len = search rules }
+keep_grown-requires c = record { tree_len = c.if-tree-ne-BYTES.false; fits = search rules; tally_len = search rules }
 
 pub reply_grown-requires : goal.reply_grown-requires
-reply_grown-requires c = c.if2.false
+reply_grown-requires c = c.if-out-ne-GROWN_OUT.false
 
 pub returns : goal.returns
-returns c = let a = c.before.before.before.before.before.before.before.before.before.before.before.before.before.before.before.before.before.before.before.before.before.before.before.before.before.before.before.before.before.before.before.before.before.before.before.before.before.before.before.before.before.before.before.before.before.args in record { answer = leaf_kept a.tree.now a.out.now _ _ _ _ _ _ _ _ c.if1.false c.if2.false c.read-parts.ensures c.read_tally.ensures c.read_state-state.ensures c.keep_grown.ensures.0 c.reply_grown.ensures a.parent a.label a.face c.add_leaf-grown.ensures; held = λ _. leaf_held a.tree.now _ _ _ _ _ _ _ c.read-parts.ensures c.read_tally.ensures c.read_state-state.ensures c.keep_grown.ensures.1 a.parent a.label a.face c.add_leaf-grown.ensures }
+returns c = let a = c.args in record { answer = leaf_kept a.tree.now a.out.now _ _ _ _ _ _ _ _ c.if-tree-ne-BYTES.false c.if-out-ne-GROWN_OUT.false c.read_parts.ensures c.read_tally.ensures c.read_state-state.ensures c.keep_grown.ensures.tree c.reply_grown.ensures a.parent a.label a.face c.add_leaf-grown.ensures; held = λ _. leaf_held a.tree.now _ _ _ _ _ _ _ c.read_parts.ensures c.read_tally.ensures c.read_state-state.ensures c.keep_grown.ensures.held a.parent a.label a.face c.add_leaf-grown.ensures }

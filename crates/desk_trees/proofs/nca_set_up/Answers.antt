@@ -7,4 +7,4 @@ pub returns-then-tree-ne-BYTES : goal.returns-then-tree-ne-BYTES
 returns-then-tree-ne-BYTES c = record { answer = set_up_misfit c.args.tree.now c.number_of.ensures c.if-tree-ne-BYTES.true; held = λ z. misfit_held c.number_of.ensures z }
 
 pub returns : goal.returns
-returns c = record { answer = set_up_kept c.before.before.before.before.before.before.before.before.before.before.before.before.before.before.before.before.before.before.before.before.before.before.before.before.before.before.before.before.before.before.before.before.before.before.before.before.args.tree.now _ _ _ _ _ _ c.if1.false c.read-parts.ensures c.read_tally.ensures c.set_up-made.ensures.0 c.set_up-made.ensures.1.0 c.set_up-made.ensures.1.1 c.keep_made.ensures.0; held = λ _. set_up_held c.before.before.before.before.before.before.before.before.before.before.before.before.before.before.before.before.before.before.before.before.before.before.before.before.before.before.before.before.before.before.before.before.before.before.before.before.args.tree.now _ _ _ _ _ _ c.read-parts.ensures c.read_tally.ensures c.set_up-made.ensures.0 c.set_up-made.ensures.1.0 c.set_up-made.ensures.1.1 c.keep_made.ensures.1 }
+returns c = record { answer = set_up_kept c.args.tree.now _ _ _ _ _ _ c.if-tree-ne-BYTES.false c.read_parts.ensures c.read_tally.ensures c.set_up-made.ensures.outcome c.set_up-made.ensures.after c.set_up-made.ensures.counts c.keep_made.ensures.answer; held = λ _. set_up_held c.args.tree.now _ _ _ _ _ _ c.read_parts.ensures c.read_tally.ensures c.set_up-made.ensures.outcome c.set_up-made.ensures.after c.set_up-made.ensures.counts c.keep_made.ensures.held }
