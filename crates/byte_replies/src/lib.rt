@@ -3,7 +3,7 @@
 #![tactic(auto)]
 
 ghost use Rattle.std.specs.Prelude.{◌≡◌, length};
-ghost use Rattle.growth.specs.Outcome.{outcome_of as growthOf};
+ghost use Rattle.growth.specs.Outcome.{outcome_of as growth_of};
 ghost use Rattle.query.specs.Outcome.{outcome_of};
 ghost use Rattle.query.specs.declared.Answered.TheVariants as answered;
 ghost use Rattle.replies.specs.Reply.{reply};
@@ -17,7 +17,7 @@ use table::refusal::number_of;
 
 pub fn reply_grown(grown: Grown, out: &mut [u8]) -> u16
     requires { length out.old ≡ 6 }
-    ensures { reply result out.new ≡ grown_bytes out.old (growthOf grown) }
+    ensures { reply result out.new ≡ grown_bytes out.old (growth_of grown) }
 {
     match grown {
         Grown::Node(g) => {

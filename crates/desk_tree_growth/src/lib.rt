@@ -9,7 +9,7 @@ ghost use Rattle.table.specs.Capacity.{Fits};
 ghost use Rattle.table.specs.Scratch.{least_scratch};
 ghost use Rattle.tally.specs.Layout.{tally_length};
 ghost use Rattle.bytes_tree.specs.Tree.{tree_rows, tree_bytes, state_in, parts_in, tally_in};
-ghost use Rattle.growth.specs.Outcome.{outcome_of as growthOf};
+ghost use Rattle.growth.specs.Outcome.{outcome_of as growth_of};
 ghost use Rattle.growth.specs.Growth.{add_leaf, add_root};
 ghost use Rattle.replies.specs.Reply.{is_named, reply};
 ghost use Rattle.desk_tree_growth.specs.TreeGrowthCalls.{outcome, tree_after, GrownHeld, GrowthHeld, leaf_tree, root_tree};
@@ -34,13 +34,13 @@ fn keep_grown(
     levels: &[i32],
     ancestors: &[u16],
     tally: &[u16],
-    grown: Grown,
+    grown: &Grown,
 )
     requires tree_len { length tree.old ≡ tree_bytes }
     requires fits { Fits tree_rows (parts_of fields.now numbers.now levels.now ancestors.now) }
     requires tally_len { length tally.now ≡ tally_length }
-    ensures tree { tree.new ≡ tree_after tree.old (parts_of fields.now numbers.now levels.now ancestors.now) tally.now (growthOf grown) }
-    ensures held { GrownHeld tree.new (parts_of fields.now numbers.now levels.now ancestors.now) tally.now (growthOf grown) }
+    ensures tree { tree.new ≡ tree_after tree.old (parts_of fields.now numbers.now levels.now ancestors.now) tally.now (growth_of grown.now) }
+    ensures held { GrownHeld tree.new (parts_of fields.now numbers.now levels.now ancestors.now) tally.now (growth_of grown.now) }
 {
     match grown {
         Grown::Node(g) => {
@@ -90,7 +90,7 @@ pub extern "C" fn nca_add_leaf(
         label,
         face,
     );
-    keep_grown(tree, &fields, &numbers, &levels, &ancestors, &tally, grown);
+    keep_grown(tree, &fields, &numbers, &levels, &ancestors, &tally, &grown);
     reply_grown(grown, out)
 }
 
@@ -127,6 +127,6 @@ pub extern "C" fn nca_add_root(tree: &mut [u8], named: u16, opening: u16, out: &
         named != 0,
         opening,
     );
-    keep_grown(tree, &fields, &numbers, &levels, &ancestors, &tally, grown);
+    keep_grown(tree, &fields, &numbers, &levels, &ancestors, &tally, &grown);
     reply_grown(grown, out)
 }

@@ -8,7 +8,7 @@ ghost use Rattle.table.specs.Parts.{parts_of};
 ghost use Rattle.table.specs.Capacity.{Fits};
 ghost use Rattle.tally.specs.Layout.{tally_length};
 ghost use Rattle.bytes_tree.specs.Tree.{tree_rows, tree_bytes, parts_in, tally_in};
-ghost use Rattle.set_up.specs.Outcome.{outcome_of as emptyOf};
+ghost use Rattle.set_up.specs.Outcome.{outcome_of as empty_of};
 ghost use Rattle.replies.specs.Reply.{reply};
 ghost use Rattle.desk_trees.specs.TreeCalls.{made_bytes, MadeHeld, SetUpHeld, set_up_tree, question_tree};
 
@@ -36,8 +36,8 @@ fn keep_made(
     requires tree_len { length tree.old ≡ tree_bytes }
     requires fits { Fits tree_rows (parts_of fields.now numbers.now levels.now ancestors.now) }
     requires tally_len { length tally.now ≡ tally_length }
-    ensures answer { reply result tree.new ≡ made_bytes tree.old (emptyOf made) (parts_of fields.now numbers.now levels.now ancestors.now) tally.now }
-    ensures held { MadeHeld tree.new (emptyOf made) (parts_of fields.now numbers.now levels.now ancestors.now) tally.now }
+    ensures answer { reply result tree.new ≡ made_bytes tree.old (empty_of made) (parts_of fields.now numbers.now levels.now ancestors.now) tally.now }
+    ensures held { MadeHeld tree.new (empty_of made) (parts_of fields.now numbers.now levels.now ancestors.now) tally.now }
 {
     match made {
         Made::Empty(empty) => {

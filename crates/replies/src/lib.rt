@@ -4,11 +4,11 @@
 
 ghost use Rattle.std.specs.Prelude.{◌≡◌, [], ◌∷◌, pos, length};
 ghost use Rattle.laws.specs.Test.{bit};
-ghost use Rattle.set_up.specs.Outcome.{outcome_of as emptyOf};
-ghost use Rattle.growth.specs.Outcome.{outcome_of as growthOf};
+ghost use Rattle.set_up.specs.Outcome.{outcome_of as empty_of};
+ghost use Rattle.growth.specs.Outcome.{outcome_of as growth_of};
 ghost use Rattle.link.specs.Outcome.{outcome_of as link_of};
 ghost use Rattle.query.specs.Outcome.{outcome_of as answer_of};
-ghost use Rattle.alike.specs.Outcome.{outcome_of as comparisonOf};
+ghost use Rattle.alike.specs.Outcome.{outcome_of as comparison_of};
 ghost use Rattle.inspect.specs.Outcome.{outcome_of as inspection_of};
 ghost use Rattle.replies.specs.Reply.{reply, made_reply, grown_reply, link_reply, question_reply, alike_reply, inspection_reply};
 
@@ -77,7 +77,7 @@ fn put_six(out: &mut [i32], a: i32, b: i32, c: i32, d: i32, e: i32, f: i32)
 
 pub fn reply_made(made: Made, out: &mut [u16]) -> u16
     requires { length out.old ≡ 1 }
-    ensures { reply result out.new ≡ made_reply out.old (emptyOf made) }
+    ensures { reply result out.new ≡ made_reply out.old (empty_of made) }
 {
     match made {
         Made::Empty(s) => {
@@ -90,7 +90,7 @@ pub fn reply_made(made: Made, out: &mut [u16]) -> u16
 
 pub fn reply_grown(grown: Grown, out: &mut [u16]) -> u16
     requires { length out.old ≡ 4 }
-    ensures { reply result out.new ≡ grown_reply out.old (growthOf grown) }
+    ensures { reply result out.new ≡ grown_reply out.old (growth_of grown) }
 {
     match grown {
         Grown::Node(g) => {
@@ -138,7 +138,7 @@ pub fn reply_answered(answered: Answered, out: &mut [i32]) -> u16
 
 pub fn reply_compared(compared: Compared, out: &mut [u16]) -> u16
     requires { length out.old ≡ 1 }
-    ensures { reply result out.new ≡ alike_reply out.old (comparisonOf compared) }
+    ensures { reply result out.new ≡ alike_reply out.old (comparison_of compared) }
 {
     match compared {
         Compared::Same(b) => {

@@ -1,9 +1,9 @@
 // What a field prints after its ordinal, by what its call gave.
 ghost use Rattle.std.specs.Prelude.{◌≡◌, [], ◌∷◌, pos};
 ghost use Rattle.table.specs.Parts.{level_at};
-ghost use Rattle.growth.specs.Outcome.{outcome_of as growthOf};
+ghost use Rattle.growth.specs.Outcome.{outcome_of as growth_of};
 ghost use Rattle.query.specs.Outcome.{outcome_of as answer_of};
-ghost use Rattle.alike.specs.Outcome.{outcome_of as sameOf};
+ghost use Rattle.alike.specs.Outcome.{outcome_of as same_of};
 ghost use Rattle.sequence.specs.Run.{grown_reply, question_reply, alike_reply};
 ghost use Rattle.report.specs.Printed.{alike_letter, printed, printed_of, question_letter, printed_refusal};
 
@@ -46,7 +46,7 @@ pub fn refused(n: u16) -> Shown
 
 // The new node, its level in the levels afterwards, the rows renumbered, and their head.
 pub fn grown(letter: u8, levels: &[i32], g: Grown) -> Shown
-    ensures { printed_of result ≡ printed letter (level_at levels.now) (grown_reply (growthOf g)) }
+    ensures { printed_of result ≡ printed letter (level_at levels.now) (grown_reply (growth_of g)) }
 {
     match g {
         Grown::Refused(r) => refused(number_of(r)),
@@ -88,7 +88,7 @@ pub fn answered(a: Answered) -> Shown
 
 // 1 or 0.
 pub fn compared(c: Compared) -> Shown
-    ensures { printed_of result ≡ printed alike_letter (level_at []) (alike_reply (sameOf c)) }
+    ensures { printed_of result ≡ printed alike_letter (level_at []) (alike_reply (same_of c)) }
 {
     match c {
         Compared::Refused(r) => refused(number_of(r)),

@@ -1,7 +1,7 @@
 // A call on the tables, and what it prints.
 ghost use Rattle.std.specs.Prelude.{◌≡◌, List, ℕ};
 ghost use Rattle.table.specs.Parts.{level_at, parts_of};
-ghost use Rattle.growth.specs.Outcome.{outcome_of as growthOf};
+ghost use Rattle.growth.specs.Outcome.{outcome_of as growth_of};
 ghost use Rattle.sequence.specs.Calls.{leaf, root, question, alike};
 ghost use Rattle.sequence.specs.Run.{grown_reply, rows_in, state_after};
 ghost use Rattle.report.specs.Printed.{printed, printed_of};
@@ -23,25 +23,18 @@ pub struct Served {
 
 // The answer of a growth; `state` stands where it was refused.
 fn after_growth(letter: u8, levels: &[i32], state: State, g: Grown) -> Served
-    ensures shown { printed_of result.shown ≡ printed letter (level_at levels.now) (grown_reply (growthOf g)) }
-    ensures rows { result.rows ≡ rows_in (grown_reply (growthOf g)) }
-    ensures state { result.state ≡ state_after state (growthOf g) }
+    ensures shown { printed_of result.shown ≡ printed letter (level_at levels.now) (grown_reply (growth_of g)) }
+    ensures rows { result.rows ≡ rows_in (grown_reply (growth_of g)) }
+    ensures state { result.state ≡ state_after state (growth_of g) }
 {
-    let shown = grown(letter, levels, g);
-    match g {
-        Grown::Node(n) => {
-            let after = n.state;
-            Served {
-                state: after,
-                rows: n.rows,
-                shown: shown,
-            }
-        }
-        Grown::Refused(_) => Served {
-            state: state,
-            rows: 0,
-            shown: shown,
-        },
+    let (after, rows) = match &g {
+        Grown::Node(n) => (n.state, n.rows),
+        Grown::Refused(_) => (state, 0),
+    };
+    Served {
+        state: after,
+        rows: rows,
+        shown: grown(letter, levels, g),
     }
 }
 

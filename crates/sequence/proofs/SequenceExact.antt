@@ -47,18 +47,22 @@ record RunExact (c : ℕ) (f : Fast) (p : PlainList) (l : StoredList) (total joi
 stands_at : {c : ℕ} {f : Fast} {p : PlainList} {l : StoredList} {m n i j : ℕ} → m ≡ n → i ≡ j → Stands c f p l m i → Stands c f p l n j
 stands_at e d s = rw (← e, ← d) s
 
-run_exact : {c : ℕ} {f : Fast} {p : PlainList} {l : StoredList} {total joinings : ℕ} → Stands c f p l total joinings → (calls : List Call)
+run_from : (calls : List Call) → {c : ℕ} {f : Fast} {p : PlainList} {l : StoredList} {total joinings : ℕ} → Stands c f p l total joinings
     → RunExact c f p l total joinings calls
 unfolding plain_run stored_run run told_all total_in
-run_exact s [] = record { replies = end; each = done; stands = stands_at (omega arith) (omega arith) s }
-run_exact {c} {f} {p} {l} s (q ∷ qs) =
+run_from [] s = record { replies = end; each = done; stands = stands_at (omega arith) (omega arith) s }
+run_from (q ∷ qs) {c} {f} {p} {l} s =
     let one = step_exact s q in
-    let rest = run_exact one.stands qs in
+    let rest = run_from qs one.stands in
     record {
       replies = next one.exact.agrees rest.replies;
       each = then one.exact rest.each;
       stands = stands_at (omega arith) (omega arith) rest.stands;
     }
+
+run_exact : {c : ℕ} {f : Fast} {p : PlainList} {l : StoredList} {total joinings : ℕ} → Stands c f p l total joinings → (calls : List Call)
+    → RunExact c f p l total joinings calls
+run_exact s calls = run_from calls s
 
 -- The theorem
 

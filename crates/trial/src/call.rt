@@ -6,7 +6,7 @@ use crate::tree::{
     with_first, with_leaf, with_link, with_over, with_root,
 };
 
-#[derive(Drop)]
+#[derive(Clone, Copy)]
 pub enum Call {
     First,
     // Over the root of node 0's tree, or the first node; whether it names an opening, and the opening.

@@ -1,5 +1,5 @@
 // Comparisons made, and the first that failed.
-#[derive(Drop)]
+#[derive(Clone, Copy)]
 pub struct Checks {
     pub compared: u64,
     // 0, or the call that differed: a letter, and the numbers it was given.

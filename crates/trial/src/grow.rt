@@ -14,7 +14,7 @@ use table::scratch::LEAST_SCRATCH;
 use table::state::State;
 
 // Both sides, and the rows renumbered and the joinings so far.
-#[derive(Drop)]
+#[derive(Clone, Copy)]
 pub struct Run {
     pub state: State,
     pub tree: Tree,
@@ -92,7 +92,7 @@ fn served(
 }
 
 // Whether a served growth is the plain list's.
-fn is_growth(before: Tree, after: Tree, refusal: u16, found: Growth) -> bool {
+fn is_growth(before: Tree, after: Tree, refusal: u16, found: &Growth) -> bool {
     let s = found.state;
     if refusal != 0 {
         return false;
@@ -108,7 +108,7 @@ fn after_growth(fields: &[u16], run: Run, call: Call, refusal: u16, g: Growth) -
     let tree = run.tree;
     let state = g.state;
     let next = after(tree, call);
-    let equal = is_growth(tree, next, refusal, g) && heads_growth(fields, g);
+    let equal = is_growth(tree, next, refusal, &g) && heads_growth(fields, &g);
     served(run, state, next, g.rows as u64, 1, equal, call)
 }
 
@@ -117,7 +117,7 @@ fn after_link(fields: &[u16], run: Run, call: Call, refusal: u16, l: Joined) -> 
     let tree = run.tree;
     let state = run.state;
     let joined = members_in(tree, first_named(call));
-    let equal = refusal == 0 && heads_link(fields, second_named(call), l);
+    let equal = refusal == 0 && heads_link(fields, second_named(call), &l);
     served(
         run,
         state,

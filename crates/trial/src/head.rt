@@ -23,11 +23,11 @@ fn is_under(fields: &[u16], x: u16, row: u16) -> bool {
 }
 
 // Whether the new node is of the head's rows, and these are as many as were renumbered.
-pub fn heads_growth(fields: &[u16], g: Growth) -> bool {
+pub fn heads_growth(fields: &[u16], g: &Growth) -> bool {
     field(fields, g.head, SIZE) == g.rows && is_under(fields, g.node, g.head)
 }
 
 // Whether the head is the first row of the tree of v.
-pub fn heads_link(fields: &[u16], v: u16, l: Joined) -> bool {
+pub fn heads_link(fields: &[u16], v: u16, l: &Joined) -> bool {
     field(fields, l.head, PARENT) == NONE && is_under(fields, v, l.head)
 }

@@ -9,7 +9,7 @@ const FRONT: u16 = 0;
 
 const BACK: u16 = 1;
 
-#[derive(Drop)]
+#[derive(Clone, Copy)]
 pub struct Tree {
     pub parents: [u16; 128],
     pub labels: [u16; 128],

@@ -16,7 +16,7 @@ use report::serve::{Served, serve_alike, serve_leaf, serve_question, serve_root}
 use table::state::State;
 
 // How far the log is read, the ordinal of the next field, the rows renumbered so far, the count, and whether the reading goes on.
-#[derive(Drop)]
+#[derive(Clone, Copy)]
 pub struct Reading {
     pub place: usize,
     pub ordinal: u32,
