@@ -18,7 +18,7 @@ use Rattle.sequence.specs.Calls.{Call, leaf, root, question, alike, told, Reply,
 use Rattle.sequence.specs.Run.{Fast, table_in, Turn, step, run, rows_in, total_in}
 use Rattle.sequence.specs.Agrees.{Agrees, refusals, nodes, links, answers, alikes, pass}
 use Rattle.sequence.specs.Invariant.{Stands}
-use Rattle.sequence.specs.StepExact.{Renumbers, growth, start, begins_root, StepStands}
+use Rattle.sequence.specs.StepExact.{Renumbers, growth, start, begins_root, StepStands, joinings}
 use Rattle.sequence.proofs.SequenceExact.{step_exact}
 use Rattle.report.specs.Printed.{printed, letter_of, printed_by}
 use Rattle.transcript.specs.Transcript.{rows}
@@ -118,6 +118,10 @@ module _ {f : Fast} {p : PlainList} {stored : StoredList} {total joined : ℕ} (
   renumbers_one : {l : StoredList} {q : Call} {k h : ℕ} {d : Table} → Logged q → Renumbers rows l (table_in f) d k h q → OneTree d
   renumbers_one g (growth a k w e) = one_grown (numbered s.rules s.fits.most) k o
   renumbers_one a_root (start (begins_root z) k w e i) = one_started (numbered s.rules s.fits.most) k z
+  renumbers_one a_leaf (start z k w e i) = elim z [ ]
+  renumbers_one a_question (start z k w e i) = elim z [ ]
+  renumbers_one an_alike (start z k w e i) = elim z [ ]
+  renumbers_one g (joinings _ _ _) = elim g [ ]
 
   -- by the reply, with the plain list's levels where it names a new node
   told_by : {q : Call} {r : PlainOutcome} {u : Turn} → Agrees r.reply u.reply → OneTree (table_in u.after)
@@ -151,10 +155,14 @@ rows_sum [] = refl
 rows_sum (r ∷ rs) = ap (λ (n : ℕ). rows_in r + n) (rows_sum rs)
 
 -- all replies
+turns_on : {qs : List Call} → AllLogged qs → {f : Fast} {p : PlainList} {stored : StoredList} {total joined : ℕ} → Stands rows f p stored total joined
+    → OneTree (table_in f) → turns_from f qs ≡ replies_from p qs (renumberings_in (run f qs).replies)
+unfolding turns_from replies_from run renumberings_in
+turns_on none_logged s o = refl
+turns_on (logged {q} g l) {f} s o =
+    let t = told_step s o g in
+    rw (t.printed, turns_on l (step_exact s q).stands t.one)
+
 pub turns_plain : {f : Fast} {p : PlainList} {stored : StoredList} {total joined : ℕ} → Stands rows f p stored total joined → OneTree (table_in f) → {qs : List Call} → AllLogged qs
     → turns_from f qs ≡ replies_from p qs (renumberings_in (run f qs).replies)
-unfolding turns_from replies_from run renumberings_in
-turns_plain s o none_logged = refl
-turns_plain {f} s o (logged {q} g l) =
-    let t = told_step s o g in
-    rw (t.printed, turns_plain (step_exact s q).stands t.one l)
+turns_plain s o l = turns_on l s o
