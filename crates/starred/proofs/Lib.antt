@@ -1,4 +1,3 @@
-pub mod Engine
 pub mod FacesLog
 pub mod OpeningsLog
 pub mod StarredCases
