@@ -22,6 +22,7 @@ def read():
         for line in file:
             if not line.startswith("#"):
                 name, rest = line.split(":")
+                name = name.split()[0]
                 names[name] = [n for n in rest.split() if n in ours]
     return names
 
