@@ -1,3 +1,4 @@
+pub mod Exact
 pub mod Level
 pub mod Listing
 pub mod Logged
