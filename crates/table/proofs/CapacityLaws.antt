@@ -1,9 +1,7 @@
 -- The test of the parts' lengths says that they fit a capacity.
-use Rattle.std.specs.Prelude.{◌≡◌, refl, Bool, true, false, ℕ, ◌*◌, ◌≤◌, length}
+use Rattle.std.specs.Prelude.{◌≡◌, refl, Bool, true, false, Some, None, ℕ, ◌*◌, ◌≤◌, length}
 use Rattle.std.proofs.Common.{ap, sym, ◌∙◌, arith}
 use Rattle.laws.specs.Test.{Says, holds, fails, says_map, says_and, says_leb, says_eqb, pick}
-use Rattle.table.specs.declared.capacity.Fit.{Fit}
-use Rattle.table.specs.declared.capacity.Fit.TheVariants.{Capacity, Misfit}
 use Rattle.layer.specs.Layout.{field_stride, number_stride, entry_stride}
 use Rattle.table.specs.Parts.{Parts}
 use Rattle.table.specs.Capacity.{node_limit, Fits, fits, capacity_of}
@@ -24,32 +22,32 @@ says_fits t = says_map to from
     from f = (f.least, (f.most, (f.fields, (f.numbers, f.ancestors))))
 
 -- parts that fit tell their capacity
-pub capacity_fits : (t : Parts) → Fits (length t.levels) t → Capacity (length t.levels) ≡ capacity_of t
+pub capacity_fits : (t : Parts) → Fits (length t.levels) t → Some (length t.levels) ≡ capacity_of t
 unfolding capacity_of
 capacity_fits t f = go (fits t) (says_fits t)
   where
-    go : (b : Bool) → Says (Fits (length t.levels) t) b → Capacity (length t.levels) ≡ pick b (Capacity (length t.levels)) Misfit
+    go : (b : Bool) → Says (Fits (length t.levels) t) b → Some (length t.levels) ≡ pick b (Some (length t.levels)) None
     go true s = refl
     go false (fails n) = absurd (n f)
 
 -- and all others are a misfit
-pub capacity_misfit : (t : Parts) → (Fits (length t.levels) t → ⊥) → Misfit ≡ capacity_of t
+pub capacity_misfit : (t : Parts) → (Fits (length t.levels) t → ⊥) → None ≡ capacity_of t
 unfolding capacity_of
 capacity_misfit t n = go (fits t) (says_fits t)
   where
-    go : (b : Bool) → Says (Fits (length t.levels) t) b → Misfit ≡ pick b (Capacity (length t.levels)) Misfit
+    go : (b : Bool) → Says (Fits (length t.levels) t) b → None ≡ pick b (Some (length t.levels)) None
     go true (holds f) = absurd (n f)
     go false s = refl
 
 -- the capacity that was told is one that the parts fit
-pub fits_capacity : (t : Parts) (c : ℕ) → capacity_of t ≡ Capacity c → Fits c t
+pub fits_capacity : (t : Parts) (c : ℕ) → capacity_of t ≡ Some c → Fits c t
 unfolding capacity_of
 fits_capacity t c = go (fits t) (says_fits t)
   where
-    go : (b : Bool) → Says (Fits (length t.levels) t) b → pick b (Capacity (length t.levels)) Misfit ≡ Capacity c → Fits c t
+    go : (b : Bool) → Says (Fits (length t.levels) t) b → pick b (Some (length t.levels)) None ≡ Some c → Fits c t
     go true (holds f) e = let i : length t.levels ≡ c = cc in rw i at f
     go false s e = let z : ◌≡◌ {A = ℕ} 0 1 = cc in absurd (omega arith)
 
 -- and parts that fit a capacity tell it
-pub fits_told : {c : ℕ} {t : Parts} → Fits c t → capacity_of t ≡ Capacity c
-fits_told {c} {t} f = sym (capacity_fits t (rw f.levels f)) ∙ ap Capacity f.levels
+pub fits_told : {c : ℕ} {t : Parts} → Fits c t → capacity_of t ≡ Some c
+fits_told {c} {t} f = sym (capacity_fits t (rw f.levels f)) ∙ ap Some f.levels

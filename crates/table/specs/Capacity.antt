@@ -1,8 +1,6 @@
 -- The capacity of lent parts (01, "Capacity is 1 to 32,768 rows"; refusal 3).
-use Rattle.std.specs.Prelude.{◌≡◌, Bool, ◌&&◌, ℕ, ◌*◌, ◌≤◌, leb, eqb, length}
+use Rattle.std.specs.Prelude.{◌≡◌, Bool, ◌&&◌, Option, Some, None, ℕ, ◌*◌, ◌≤◌, leb, eqb, length}
 use Rattle.laws.specs.Test.{pick}
-use Rattle.table.specs.declared.capacity.Fit.{Fit}
-use Rattle.table.specs.declared.capacity.Fit.TheVariants.{Capacity, Misfit}
 use Rattle.layer.specs.Layout.{field_stride, number_stride, entry_stride}
 use Rattle.table.specs.Parts.{Parts}
 
@@ -27,11 +25,11 @@ fits t =
     (eqb (length t.fields) (length t.levels * field_stride) &&
     (eqb (length t.numbers) (length t.levels * number_stride) && eqb (length t.ancestors) (length t.levels * entry_stride))))
 
--- the capacity that the parts fit
-unfoldable pub capacity_of : Parts → Fit
-capacity_of t = pick (fits t) (Capacity (length t.levels)) Misfit
+-- the capacity that the parts fit, or none
+unfoldable pub capacity_of : Parts → Option ℕ
+capacity_of t = pick (fits t) (Some (length t.levels)) None
 
 -- the outcome by that capacity
-abbrev pub on_fit : {A : Type 0} → Fit → (ℕ → A) → A → A
-on_fit (Capacity c) f other = f c
-on_fit Misfit f other = other
+abbrev pub on_fit : {A : Type 0} → Option ℕ → (ℕ → A) → A → A
+on_fit (Some c) f other = f c
+on_fit None f other = other

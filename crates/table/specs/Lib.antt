@@ -1,5 +1,6 @@
 pub mod Layout
 pub mod Parts
+pub mod Lent
 pub mod Capacity
 pub mod Scratch
 pub mod Table

@@ -1,38 +1,33 @@
 // The capacity that lent parts fit.
 ghost use Rattle.std.specs.Prelude.{◌≡◌};
 ghost use Rattle.table.specs.Capacity.{capacity_of};
-ghost use Rattle.table.specs.Parts.{parts_of};
+ghost use Rattle.table.specs.Lent.{parts_in};
 
+use crate::parts::Parts;
 use layer::layout::{ENTRIES, FIELDS, NUMBERS};
 
 // The most rows a table may have.
 pub const LARGEST: usize = 32768;
 
-// What the parts of a table fit.
-#[derive(Drop)]
-pub enum Fit {
-    Capacity(usize),
-    Misfit,
-}
-
-pub fn capacity(fields: &[u16], numbers: &[u64], levels: &[i32], ancestors: &[u16]) -> Fit
-    ensures { result ≡ capacity_of (parts_of fields.now numbers.now levels.now ancestors.now) }
+// The capacity that the parts fit, or none.
+pub fn capacity(parts: &Parts<'_>) -> Option<usize>
+    ensures { result ≡ capacity_of (parts_in parts.now) }
 {
-    let n = levels.len();
+    let n = parts.levels.len();
     if n < 1 {
-        return Fit::Misfit;
+        return None;
     }
     if LARGEST < n {
-        return Fit::Misfit;
+        return None;
     }
-    if fields.len() != n * FIELDS {
-        return Fit::Misfit;
+    if parts.fields.len() != n * FIELDS {
+        return None;
     }
-    if numbers.len() != n * NUMBERS {
-        return Fit::Misfit;
+    if parts.numbers.len() != n * NUMBERS {
+        return None;
     }
-    if ancestors.len() != n * ENTRIES {
-        return Fit::Misfit;
+    if parts.ancestors.len() != n * ENTRIES {
+        return None;
     }
-    Fit::Capacity(n)
+    Some(n)
 }

@@ -5,6 +5,7 @@
 pub mod capacity;
 pub mod layout;
 pub mod level;
+pub mod parts;
 pub mod refusal;
 pub mod scratch;
 pub mod state;

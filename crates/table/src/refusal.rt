@@ -2,7 +2,7 @@
 ghost use Rattle.std.specs.Prelude.{◌≡◌};
 ghost use Rattle.table.specs.Refusal.{number_of};
 
-#[derive(Drop)]
+#[derive(Clone, Copy, Debug, PartialEq, Eq)]
 pub enum Refusal {
     UnknownNode,
     Full,
@@ -16,18 +16,20 @@ pub enum Refusal {
 }
 
 // 01's number.
-pub fn number_of(r: Refusal) -> u16
-    ensures { result ≡ number_of r }
-{
-    match r {
-        Refusal::UnknownNode => 1,
-        Refusal::Full => 2,
-        Refusal::Misfit => 3,
-        Refusal::Corrupt => 4,
-        Refusal::BadLabel => 5,
-        Refusal::NotRoot => 10,
-        Refusal::SameTree => 11,
-        Refusal::OtherTree => 12,
-        Refusal::BadFace => 13,
+impl From<Refusal> for u16 {
+    ghost from_gives = { λ r n. n ≡ number_of r };
+
+    fn from(r: Refusal) -> u16 {
+        match r {
+            Refusal::UnknownNode => 1,
+            Refusal::Full => 2,
+            Refusal::Misfit => 3,
+            Refusal::Corrupt => 4,
+            Refusal::BadLabel => 5,
+            Refusal::NotRoot => 10,
+            Refusal::SameTree => 11,
+            Refusal::OtherTree => 12,
+            Refusal::BadFace => 13,
+        }
     }
 }
