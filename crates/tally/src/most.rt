@@ -33,10 +33,8 @@ fn greatest(tally: &[u16]) -> u16
     ensures { result ≡ greatest_to tally.now label_count }
 {
     let mut most: u16 = 0;
-    let mut k: usize = 0;
-    while k < LABELS {
+    for k in 0..LABELS {
         most = larger_of(most, tally[k]);
-        k += 1;
     }
     most
 }
@@ -47,10 +45,8 @@ fn first_of(tally: &[u16], sought: u16) -> u16
     ensures { result ≡ first_to tally.now sought label_count }
 {
     let mut first: u16 = NONE;
-    let mut k: usize = 0;
-    while k < LABELS {
+    for k in 0..LABELS {
         first = smaller_of(first, label_of(tally[k], sought, k as u16));
-        k += 1;
     }
     first
 }

@@ -1,12 +1,9 @@
 -- `greatest`: the greatest entry below k.
 use mathlib.Core.Path.{◌≡◌}
-use Prim.Native.Nat.{◌-◌, ◌≤◌}
+use Prim.Native.Nat.{◌-◌}
 use Rattle.tally.specs.Layout.{label_count}
 use Rattle.tally.specs.Most.{greatest_to}
 use Rattle.tally.proofs.most.greatest.Given as goal
 
 abbrev pub invariant-loop-k : goal.invariant-loop-k
-invariant-loop-k l = (l.k ≤ label_count) × (l.most ≡ greatest_to l.tally l.k)
-
-abbrev pub decreases-loop-k : goal.decreases-loop-k
-decreases-loop-k l = label_count - l.k
+invariant-loop-k l = l.most ≡ greatest_to l.tally l.k
