@@ -1,4 +1,5 @@
 pub mod All
+pub mod AllRows
 pub mod Apart
 pub mod Choice
 pub mod CompressedLaws

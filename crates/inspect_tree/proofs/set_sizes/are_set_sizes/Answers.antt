@@ -1,7 +1,7 @@
 -- `are_set_sizes`: all rows pass.
-use Rattle.std.proofs.Common.{rules, refl}
+use Rattle.std.proofs.Common.{rules}
 use Rattle.inspect_laws.specs.SetSizes.{are_set_sizes, is_set_size}
-use Rattle.inspect_laws.proofs.All.{all_rows}
+use Rattle.inspect_laws.proofs.AllRows.{all_rows}
 use Rattle.inspect_tree.specs.Columns.{field_layer}
 use Rattle.inspect_tree.proofs.set_sizes.are_set_sizes.Goals as goal
 
