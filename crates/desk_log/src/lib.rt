@@ -10,7 +10,7 @@ ghost use Rattle.desk_log.specs.LogCalls.{field_reply, field_call};
 
 use log_fields::{Field, next_at};
 use reader::read_at;
-use table::refusal::{Refusal, number_of};
+use table::refusal::Refusal;
 
 // How many values a field has for its out slice.
 const FIELD_OUT: usize = 4;
@@ -61,7 +61,7 @@ pub extern "C" fn nca_log_field(log: &[u8], at: usize, out: &mut [u16]) -> u16
     ensures { reply result out.new ≡ field_call log.now at out.old }
 {
     if out.len() != FIELD_OUT {
-        return number_of(Refusal::Misfit);
+        return u16::from(Refusal::Misfit);
     }
     reply_field(read_at(log, at), out)
 }

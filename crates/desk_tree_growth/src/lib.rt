@@ -20,7 +20,7 @@ use bytes_tree::tree::{
     read_tally, write_tree,
 };
 use growth::Grown;
-use table::refusal::{Refusal, number_of};
+use table::refusal::Refusal;
 use table::scratch::LEAST_SCRATCH;
 
 // How many bytes a growth has for its out slice.
@@ -64,10 +64,10 @@ pub extern "C" fn nca_add_leaf(
     ensures held { result ≡ 0 → GrowthHeld tree.new (add_leaf (parts_in tree.old) (tally_in tree.old) least_scratch (state_in tree.old) parent label face) }
 {
     if tree.len() != BYTES {
-        return number_of(Refusal::Misfit);
+        return u16::from(Refusal::Misfit);
     }
     if out.len() != GROWN_OUT {
-        return number_of(Refusal::Misfit);
+        return u16::from(Refusal::Misfit);
     }
     let mut fields = [0u16; FIELD_COUNT];
     let mut numbers = [0u64; NUMBER_COUNT];
@@ -102,10 +102,10 @@ pub extern "C" fn nca_add_root(tree: &mut [u8], named: u16, opening: u16, out: &
     ensures held { result ≡ 0 → GrowthHeld tree.new (add_root (parts_in tree.old) (tally_in tree.old) least_scratch (state_in tree.old) (is_named named) opening) }
 {
     if tree.len() != BYTES {
-        return number_of(Refusal::Misfit);
+        return u16::from(Refusal::Misfit);
     }
     if out.len() != GROWN_OUT {
-        return number_of(Refusal::Misfit);
+        return u16::from(Refusal::Misfit);
     }
     let mut fields = [0u16; FIELD_COUNT];
     let mut numbers = [0u64; NUMBER_COUNT];

@@ -18,7 +18,7 @@ use bytes_tree::tree::{
     read_tally, write_tree,
 };
 use set_up::Made;
-use table::refusal::{Refusal, number_of};
+use table::refusal::Refusal;
 
 // How many bytes a question has for its out slice.
 const ANSWERED_OUT: usize = 16;
@@ -55,7 +55,7 @@ pub extern "C" fn nca_set_up(tree: &mut [u8]) -> u16
     ensures held { result ≡ 0 → SetUpHeld tree.new (parts_in tree.old) (tally_in tree.old) }
 {
     if tree.len() != BYTES {
-        return number_of(Refusal::Misfit);
+        return u16::from(Refusal::Misfit);
     }
     let mut fields = [0u16; FIELD_COUNT];
     let mut numbers = [0u64; NUMBER_COUNT];
@@ -80,10 +80,10 @@ pub extern "C" fn nca_query(tree: &[u8], x: u16, y: u16, out: &mut [u8]) -> u16
     ensures { reply result out.new ≡ question_tree tree.now out.old x y }
 {
     if tree.len() != BYTES {
-        return number_of(Refusal::Misfit);
+        return u16::from(Refusal::Misfit);
     }
     if out.len() != ANSWERED_OUT {
-        return number_of(Refusal::Misfit);
+        return u16::from(Refusal::Misfit);
     }
     let mut fields = [0u16; FIELD_COUNT];
     let mut numbers = [0u64; NUMBER_COUNT];
