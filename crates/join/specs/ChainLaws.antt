@@ -1,5 +1,5 @@
 -- One row of the walk up the chain.
-use Rattle.std.specs.Prelude.{◌≡◌, true, false, ◌≢◌, List, Option, Some, None}
+use Rattle.std.specs.Prelude.{◌≡◌, true, false, ◌≢◌, List, Some, None}
 use Rattle.std.proofs.Math.Path.{refl}
 use Prim.Native.Nat.{ℕ, zero, suc}
 use borrow.Author.Tests.{eq-eqb, ne_eqb}

@@ -1,5 +1,5 @@
 -- The seat of a row that joins, each from the facts that lead to it.
-use Rattle.std.specs.Prelude.{◌≡◌, true, false, List, ℕ, Option, Some, None}
+use Rattle.std.specs.Prelude.{◌≡◌, true, false, List, ℕ, Some, None}
 use Rattle.counts.specs.Count.{one_more}
 use Rattle.tree_laws.specs.Ancestor.{none}
 use Rattle.layer.specs.Layout.{depth_place}
