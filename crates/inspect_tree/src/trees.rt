@@ -11,10 +11,9 @@ ghost use Rattle.inspect_tree.specs.Links.{Follows};
 use layer::layout::{DEPTH, FIRST, LAST, NEXT, NONE, PARENT};
 use layer::row::field;
 
-// The children of a row that were met from its first on, and the last of them; ok where the chain ended.
+// The children of a row that were met from its first on, and the last of them.
 #[derive(Drop)]
 pub struct Chain {
-    pub ok: bool,
     pub met: u16,
     pub last: u16,
 }
@@ -50,14 +49,7 @@ fn is_stored(fields: &[u16], n: u16, x: u16) -> bool
 fn are_parents(fields: &[u16], n: u16) -> bool
     ensures { result ≡ are_parents (field_layer fields.now n) }
 {
-    let mut x: u16 = 0;
-    while x < n {
-        if !is_stored(fields, n, x) {
-            return false;
-        }
-        x += 1;
-    }
-    true
+    (0..n).all(|x| is_stored(fields, n, x))
 }
 
 // Row c is one of n, a stored child of v.
@@ -67,37 +59,26 @@ fn is_child(fields: &[u16], n: u16, v: u16, c: u16) -> bool
     (c < n) & (field(fields, c, PARENT) == v)
 }
 
-// Follows the next links from the first child of v, n steps at most.
-fn follow(fields: &[u16], n: u16, v: u16) -> Chain
+// Follows the next links from the first child of v, n steps at most; none where the chain does not end.
+fn follow(fields: &[u16], n: u16, v: u16) -> Option<Chain>
     ensures { Follows (field_layer fields.now n) v result }
 {
     let mut c = field(fields, v, FIRST);
-    let mut met: u16 = 0;
     let mut last = NONE;
-    while met < n {
+    for met in 0..n {
         if c == NONE {
-            return Chain {
-                ok: true,
-                met: met,
-                last: last,
-            };
+            return Some(Chain { met, last });
         }
         if !is_child(fields, n, v, c) {
-            return Chain {
-                ok: false,
-                met: met,
-                last: last,
-            };
+            return None;
         }
         last = c;
         c = field(fields, c, NEXT);
-        met += 1;
     }
-    Chain {
-        ok: c == NONE,
-        met: met,
-        last: last,
+    if c != NONE {
+        return None;
     }
+    Some(Chain { met: n, last })
 }
 
 // The last child of row x is `last`, and x has no siblings without a parent.
@@ -124,14 +105,14 @@ fn are_links(fields: &[u16], n: u16) -> bool
     ensures { result ≡ are_links (field_layer fields.now n) }
 {
     let mut rows: u32 = 0;
-    let mut x: u16 = 0;
-    while x < n {
-        let k = follow(fields, n, x);
-        if !(k.ok & is_last(fields, x, k.last)) {
+    for x in 0..n {
+        let Some(k) = follow(fields, n, x) else {
+            return false;
+        };
+        if !is_last(fields, x, k.last) {
             return false;
         }
         rows = rows + k.met as u32 + own_row(fields, x);
-        x += 1;
     }
     rows == n as u32
 }

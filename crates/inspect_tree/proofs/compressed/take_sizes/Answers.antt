@@ -8,21 +8,18 @@ use Rattle.inspect_tree.proofs.compressed.take_sizes.Goals as goal
 
 pub loop-x-init : goal.loop-x-init
 loop-x-init c = let f = c.args.fields.now in
-    (omega arith, (refl, taking_start (uppers f) (sizes f) c.args.n c.requires.kept))
+    (refl, taking_start (uppers f) (sizes f) c.args.n c.requires.kept)
 
 pub returns-then-not-take_one : goal.returns-then-not-take_one
 returns-then-not-take_one c = let f = c.args.fields.now in
     let n = c.args.n in
-    taking_stop (uppers f) (sizes f) n c.loop-x.invariant.1.1 (omega arith) (omega arith) (omega arith) c.requires.in_range c.field.ensures c.field-in-loop-x.ensures c.take_one.ensures c.if-not-take_one.true-raw
-
-pub loop-x-smaller : goal.loop-x-smaller
-loop-x-smaller c = omega arith
+    taking_stop (uppers f) (sizes f) n c.loop-x.invariant.1 (omega arith) (omega arith) (omega arith) c.requires.in_range c.field.ensures c.field-in-loop-x.ensures c.take_one.ensures c.if-not-take_one.true-raw
 
 pub loop-x-preserved : goal.loop-x-preserved
 loop-x-preserved c = let f = c.args.fields.now in
     let n = c.args.n in
-    (omega arith, (search rules, taking_step (uppers f) (sizes f) n c.loop-x.invariant.1.1 (omega arith) (omega arith) (omega arith) c.requires.in_range c.field.ensures c.field-in-loop-x.ensures c.take_one.ensures c.if-not-take_one.false-raw))
+    (search rules, taking_step (uppers f) (sizes f) n c.loop-x.invariant.1 (omega arith) (omega arith) (omega arith) c.requires.in_range c.field.ensures c.field-in-loop-x.ensures c.take_one.ensures c.if-not-take_one.false-raw)
 
 pub returns : goal.returns
 returns c = let f = c.args.fields.now in
-    taking_end (uppers f) (sizes f) c.args.n (omega arith) (omega arith) c.loop-x.invariant.1.1
+    taking_end (uppers f) (sizes f) c.args.n (omega arith) (omega arith) c.loop-x.invariant.1

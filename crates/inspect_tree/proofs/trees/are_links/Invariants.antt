@@ -1,6 +1,5 @@
 -- `are_links`: the chains of the rows below x end, and `rows` counts what they meet.
-use mathlib.Core.Path.{◌≡◌}
-use Prim.Native.Nat.{◌-◌, ◌*◌, ◌≤◌}
+use Rattle.std.specs.Prelude.{◌≡◌, ◌*◌, ◌≤◌}
 use Rattle.inspect_laws.proofs.All.{Passed}
 use Rattle.inspect_laws.specs.Trees.{is_linked}
 use Rattle.inspect_tree.specs.Columns.{field_layer}
@@ -8,7 +7,4 @@ use Rattle.inspect_tree.specs.Links.{rows_to}
 use Rattle.inspect_tree.proofs.trees.are_links.Given as goal
 
 abbrev pub invariant-loop-x : goal.invariant-loop-x
-invariant-loop-x l = (l.x ≤ l.n) × (Passed (is_linked (field_layer l.fields l.n)) l.x × ((l.rows ≡ rows_to (field_layer l.fields l.n) l.x) × (l.rows ≤ l.x * 65536)))
-
-abbrev pub decreases-loop-x : goal.decreases-loop-x
-decreases-loop-x l = l.n - l.x
+invariant-loop-x l = Passed (is_linked (field_layer l.fields l.n)) l.x × ((l.rows ≡ rows_to (field_layer l.fields l.n) l.x) × (l.rows ≤ l.x * 65536))
