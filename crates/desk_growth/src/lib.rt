@@ -102,6 +102,7 @@ pub extern "C" fn nca_table_add_root(
         levels,
         ancestors,
     };
-    let grown = growth::add_root_over(&mut parts, tally, scratch, state, x, named != 0, opening);
+    let over = (named != 0).then_some(opening);
+    let grown = growth::add_root_over(&mut parts, tally, scratch, state, x, over);
     reply_grown(grown, out)
 }

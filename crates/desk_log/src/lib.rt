@@ -10,6 +10,7 @@ ghost use Rattle.desk_log.specs.LogCalls.{field_reply, field_call};
 
 use log_fields::{Field, next_at};
 use reader::read_at;
+use replies::served;
 use table::refusal::Refusal;
 
 // How many values a field has for its out slice.
@@ -20,11 +21,7 @@ fn put_field(out: &mut [u16], kind: u16, first: u16, second: u16, third: u16) ->
     requires { length out.old ≡ 4 }
     ensures { reply result out.new ≡ reply 0 (kind ∷ first ∷ second ∷ third ∷ []) }
 {
-    out[0] = kind;
-    out[1] = first;
-    out[2] = second;
-    out[3] = third;
-    0
+    served(out, [kind, first, second, third])
 }
 
 // What a field tells, zeros where it has fewer values, and at the log's end; or the refusal's number and the out slice as it was.
