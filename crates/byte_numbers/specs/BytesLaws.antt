@@ -1,44 +1,38 @@
 -- Laws of numbers as bytes, over any width.
-use Rattle.std.specs.Prelude.{◌≡◌, refl, List, [], ◌∷◌, ◌++◌, ℕ, zero, suc, ◌+◌, ◌*◌, ◌^◌, ◌/◌, ◌%◌, ◌≤◌, ◌<◌, length, take, drop, get_or, set}
-use Rattle.std.proofs.Common.{ap, ◌∙◌, append-nil, pow-suc, arith, add-one, length-drop, drop_of_length-le, take-add, drop-drop, length-take-le, drop-cons}
+use Rattle.std.specs.Prelude.{◌≡◌, refl, List, [], ◌∷◌, ◌++◌, ℕ, zero, suc, ◌+◌, ◌-◌, ◌*◌, ◌^◌, ◌/◌, ◌%◌, ◌≤◌, ◌<◌, length, take, drop, get_or, set}
+use Rattle.std.proofs.Common.{ap, sym, ◌∙◌, append_assoc, append-nil, pow-suc, arith, drop_of_length-le, drop-drop}
+use Rattle.std.proofs.Math.Nat.{div-div-eq-div-mul}
+use Rattle.std.specs.Int.{bytes_low_first}
+use borrow.Rule.Slice.PartMut.{put_mid}
 use Rattle.std.proofs.lemmas.List.Edits.{sets, sets-eq}
-use Rattle.byte_numbers.specs.Bytes.{value, bytes, value_at}
-
--- Reading
-
--- bytes one after another
-value_append : (a b : List ℕ) → value (a ++ b) ≡ value a + 256 ^ length a * value b
-value_append [] b = omega arith
-value_append (x ∷ a) b = rw (value_append a b, pow-suc 256 (length a)) (omega arith)
-
--- a number by its low and its high bytes
-pub value_join : (v w : ℕ) (l : List ℕ) (i : ℕ) → i + v ≤ length l → value_at (v + w) l i ≡ value_at v l i + 256 ^ v * value_at w l (i + v)
-value_join v w l i h =
-    let k : v ≤ length (drop i l) = simp length-drop (omega arith) in
-    ap value (take-add v w (drop i l)) ∙ value_append (take v (drop i l)) (take w (drop v (drop i l))) ∙ rw (length-take-le v (drop i l) k, drop-drop v i l)
-
-pub value_two : (l : List ℕ) (i : ℕ) → i + 2 ≤ length l → get_or l i 0 + get_or l (i + 1) 0 * 256 ≡ value_at 2 l i
-value_two l i h =
-    let p : i < length l = omega arith in
-    let q : suc i < length l = omega arith in
-    rw (drop-cons l i 0 p, drop-cons l (suc i) 0 q, add-one) (omega arith)
+use Rattle.byte_numbers.specs.Bytes.{value, bytes}
 
 -- Writing
 
 cons_eq : {x y : ℕ} {a b : List ℕ} → x ≡ y → a ≡ b → x ∷ a ≡ y ∷ b
 cons_eq e f = rw (e, f)
 
-pub bytes_four : (x : ℕ) → bytes 2 (x % 65536) ++ bytes 2 (x / 65536) ≡ bytes 4 x
-bytes_four x = cons_eq (omega arith) (cons_eq (omega arith) (cons_eq (omega arith) (cons_eq (omega arith) refl)))
-
-pub bytes_eight : (x : ℕ) → bytes 4 (x % 4294967296) ++ bytes 4 (x / 4294967296) ≡ bytes 8 x
-bytes_eight x =
-    cons_eq (omega arith) (cons_eq (omega arith) (cons_eq (omega arith) (cons_eq (omega arith)
-    (cons_eq (omega arith) (cons_eq (omega arith) (cons_eq (omega arith) (cons_eq (omega arith) refl)))))))
-
 pub length_bytes : (w x : ℕ) → length (bytes w x) ≡ w
 length_bytes zero x = refl
 length_bytes (suc w) x = ap suc (length_bytes w (x / 256))
+
+-- std's bytes of a number, from the second on, and all of them
+bytes_above : (k w x : ℕ) → bytes_low_first (suc k) w x ≡ bytes w (x / 256 ^ suc k)
+bytes_above k zero x = refl
+bytes_above k (suc w) x =
+    cons_eq refl (bytes_above (suc k) w x ∙ ap (bytes w) (ap (λ (n : ℕ). x / n) (pow-suc 256 (suc k)) ∙ sym (div-div-eq-div-mul x (256 ^ suc k) 256)))
+
+low_first : (w x : ℕ) → bytes_low_first 0 w x ≡ bytes w x
+low_first zero x = refl
+low_first (suc w) x = let one : 256 ^ suc zero ≡ 256 = refl in cons_eq refl (bytes_above 0 w x ∙ ap (λ (n : ℕ). bytes w (x / n)) one)
+
+-- std's bytes written to a part of as many
+pub stored : (l written : List ℕ) (i w x : ℕ) → i + w ≤ length l → written ≡ bytes_low_first 0 w x → put_mid i (i + w - i) l written ≡ sets l i (bytes w x)
+stored l written i w x h e =
+    let k : i + w - i ≡ w = omega arith in
+    let f : written ≡ bytes w x = e ∙ low_first w x in
+    let n : length (bytes w x) ≡ w = length_bytes w x in
+    rw (k, f, sets-eq (bytes w x) l i (omega arith), n, drop-drop w i l) (sym (append_assoc (take i l) (bytes w x) (drop (i + w) l)))
 
 -- stores one after another
 pub sets_join : (us vs l : List ℕ) (i : ℕ) → sets (sets l i us) (i + length us) vs ≡ sets l i (us ++ vs)

@@ -7,45 +7,49 @@ pub fn word16(b: &[u8], i: usize) -> u16
     requires { i + 2 ≤ length b.now }
     ensures { result ≡ value_at 2 b.now i }
 {
-    let low = b[i] as u16;
-    let high = b[i + 1] as u16;
-    low + high * 256
+    u16::from_le_bytes([b[i], b[i + 1]])
 }
 
 pub fn word32(b: &[u8], i: usize) -> u32
     requires { i + 4 ≤ length b.now }
     ensures { result ≡ value_at 4 b.now i }
 {
-    (word16(b, i) as u32) + (word16(b, i + 2) as u32) * 65536
+    u32::from_le_bytes([b[i], b[i + 1], b[i + 2], b[i + 3]])
 }
 
 pub fn word64(b: &[u8], i: usize) -> u64
     requires { i + 8 ≤ length b.now }
     ensures { result ≡ value_at 8 b.now i }
 {
-    (word32(b, i) as u64) + (word32(b, i + 4) as u64) * 4294967296
+    u64::from_le_bytes([
+        b[i],
+        b[i + 1],
+        b[i + 2],
+        b[i + 3],
+        b[i + 4],
+        b[i + 5],
+        b[i + 6],
+        b[i + 7],
+    ])
 }
 
 pub fn put16(b: &mut [u8], i: usize, x: u16)
     requires { i + 2 ≤ length b.old }
     ensures { b.new ≡ sets b.old i (bytes 2 x) }
 {
-    b[i] = (x % 256) as u8;
-    b[i + 1] = (x / 256 % 256) as u8;
+    b[i..i + 2].copy_from_slice(&x.to_le_bytes());
 }
 
 pub fn put32(b: &mut [u8], i: usize, x: u32)
     requires { i + 4 ≤ length b.old }
     ensures { b.new ≡ sets b.old i (bytes 4 x) }
 {
-    put16(b, i, (x % 65536) as u16);
-    put16(b, i + 2, (x / 65536) as u16);
+    b[i..i + 4].copy_from_slice(&x.to_le_bytes());
 }
 
 pub fn put64(b: &mut [u8], i: usize, x: u64)
     requires { i + 8 ≤ length b.old }
     ensures { b.new ≡ sets b.old i (bytes 8 x) }
 {
-    put32(b, i, (x % 4294967296) as u32);
-    put32(b, i + 4, (x / 4294967296) as u32);
+    b[i..i + 8].copy_from_slice(&x.to_le_bytes());
 }

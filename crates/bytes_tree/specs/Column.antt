@@ -16,3 +16,8 @@ levels_at n l place = tabulate (λ i. signed (value_at 4 l (place + i * 4))) n
 abbrev pub column_of : ℕ → List ℕ → List ℕ
 column_of w [] = []
 column_of w (x ∷ xs) = bytes w x ++ column_of w xs
+
+-- the bytes of numbers, one after another
+abbrev pub joined : {A : Type 0} → (A → List ℕ) → List A → List ℕ
+joined f [] = []
+joined f (x ∷ xs) = f x ++ joined f xs

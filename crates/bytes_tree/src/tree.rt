@@ -1,13 +1,14 @@
 // A whole tree: its count, parts and tally from bytes, and back.
 ghost use Rattle.std.specs.Prelude.{◌≡◌, length};
-ghost use Rattle.table.specs.Parts.{parts_of};
+ghost use Rattle.table.specs.Lent.{SameLoans, parts_in as lent, parts_in_mut};
 ghost use Rattle.table.specs.Capacity.{Fits};
 ghost use Rattle.tally.specs.Layout.{tally_length};
 ghost use Rattle.bytes_tree.specs.Tree.{tree_rows, tree_bytes, state_in, parts_in, tally_in, encoded, InBytes};
 
-use crate::columns::{read_levels, read16, read64, write_levels, write16, write64};
+use crate::columns::{read, write};
 use byte_numbers::word::{put16, word16};
 use layer::layout;
+use table::parts::{Parts, PartsMut};
 use table::state::State;
 
 // The rows of a tree, and the numbers of each of its parts and of its tally.
@@ -45,21 +46,16 @@ pub fn read_state(b: &[u8]) -> State
     }
 }
 
-pub fn read_parts(
-    b: &[u8],
-    fields: &mut [u16],
-    numbers: &mut [u64],
-    levels: &mut [i32],
-    ancestors: &mut [u16],
-)
+pub fn read_parts(b: &[u8], parts: &mut PartsMut<'_>)
     requires b_len { length b.now ≡ tree_bytes }
-    requires fits { Fits tree_rows (parts_of fields.old numbers.old levels.old ancestors.old) }
-    ensures { parts_of fields.new numbers.new levels.new ancestors.new ≡ parts_in b.now }
+    requires fits { Fits tree_rows (parts_in_mut parts.old) }
+    ensures held { parts_in_mut parts.new ≡ parts_in b.now }
+    ensures loans { SameLoans parts.old parts.new }
 {
-    read16(b, FIELDS, fields);
-    read64(b, NUMBERS, numbers);
-    read_levels(b, LEVELS, levels);
-    read16(b, ANCESTORS, ancestors);
+    read(b, FIELDS, parts.fields);
+    read(b, NUMBERS, parts.numbers);
+    read(b, LEVELS, parts.levels);
+    read(b, ANCESTORS, parts.ancestors);
 }
 
 pub fn read_tally(b: &[u8], tally: &mut [u16])
@@ -67,28 +63,20 @@ pub fn read_tally(b: &[u8], tally: &mut [u16])
     requires tally_len { length tally.old ≡ tally_length }
     ensures { tally.new ≡ tally_in b.now }
 {
-    read16(b, TALLY, tally);
+    read(b, TALLY, tally);
 }
 
-pub fn write_tree(
-    b: &mut [u8],
-    state: State,
-    fields: &[u16],
-    numbers: &[u64],
-    levels: &[i32],
-    ancestors: &[u16],
-    tally: &[u16],
-)
+pub fn write_tree(b: &mut [u8], state: State, parts: &Parts<'_>, tally: &[u16])
     requires b_len { length b.old ≡ tree_bytes }
-    requires fits { Fits tree_rows (parts_of fields.now numbers.now levels.now ancestors.now) }
+    requires fits { Fits tree_rows (lent parts.now) }
     requires tally_len { length tally.now ≡ tally_length }
-    ensures bytes { b.new ≡ encoded state (parts_of fields.now numbers.now levels.now ancestors.now) tally.now }
-    ensures range { InBytes state (parts_of fields.now numbers.now levels.now ancestors.now) tally.now }
+    ensures bytes { b.new ≡ encoded state (lent parts.now) tally.now }
+    ensures range { InBytes state (lent parts.now) tally.now }
 {
     put16(b, COUNT, state.count);
-    write16(b, FIELDS, fields);
-    write64(b, NUMBERS, numbers);
-    write_levels(b, LEVELS, levels);
-    write16(b, ANCESTORS, ancestors);
-    write16(b, TALLY, tally);
+    write(b, FIELDS, parts.fields);
+    write(b, NUMBERS, parts.numbers);
+    write(b, LEVELS, parts.levels);
+    write(b, ANCESTORS, parts.ancestors);
+    write(b, TALLY, tally);
 }

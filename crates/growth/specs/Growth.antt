@@ -1,6 +1,7 @@
 -- Growth: the outcome, all parts and the tally afterwards, of a first node, a new leaf and a new root, on every table and every tally.
-use Rattle.std.specs.Prelude.{Bool, List, ℕ, pos}
+use Rattle.std.specs.Prelude.{Bool, List, ℕ, pos, Result as Fallible, Ok, Err}
 use Rattle.laws.specs.Test.{pick}
+use Rattle.table.specs.declared.refusal.Refusal.{Refusal}
 use Rattle.table.specs.declared.refusal.Refusal.TheVariants.{Misfit, Corrupt}
 use Rattle.table.specs.declared.state.State.{State}
 use Rattle.table.specs.Parts.{Parts, parts_of, with_level}
@@ -10,7 +11,7 @@ use Rattle.tally.specs.Fit.{capacity_with}
 use Rattle.tally.specs.Count.{has_room, counted}
 use Rattle.growth_plan.specs.declared.row.Plan.{Plan}
 use Rattle.growth_plan.specs.declared.row.Planned.{Planned}
-use Rattle.growth_plan.specs.declared.row.Planned.TheVariants.{Grow, Start, Refuse}
+use Rattle.growth_plan.specs.declared.row.Planned.TheVariants.{Grow, Start}
 use Rattle.counts.specs.Count.{one_more}
 use Rattle.join.specs.Lone.{lone_numbers, lone_entries}
 use Rattle.growth_store.specs.Store.{Stored, plan_stored}
@@ -47,17 +48,17 @@ abbrev pub with_room : Parts → List ℕ → ℕ → ℕ → Result → Result
 with_room t w c label r = pick (has_room w c label) r (growth_result t w (refused Corrupt))
 
 -- by its plan, at capacity c: a refusal changes nothing
-unfoldable pub grown_at : Parts → List ℕ → ℕ → Planned → Result
-grown_at t w c (Grow g) = with_room t w c g.marks.label (served w g (plan_stored t g.seat.leaf.row g))
-grown_at t w c (Start n) = with_room t w c 0 (started t w n)
-grown_at t w c (Refuse r) = growth_result t w (refused r)
+unfoldable pub grown_at : Parts → List ℕ → ℕ → Fallible Planned Refusal → Result
+grown_at t w c (Ok (Grow g)) = with_room t w c g.marks.label (served w g (plan_stored t g.seat.leaf.row g))
+grown_at t w c (Ok (Start n)) = with_room t w c 0 (started t w n)
+grown_at t w c (Err r) = growth_result t w (refused r)
 
 -- refused, since what was lent does not fit
 abbrev pub misfit : Parts → List ℕ → Result
 misfit t w = growth_result t w (refused Misfit)
 
 -- with a scratch of this length, in parts and a tally that fit; of the scratch nothing but its length counts
-unfoldable pub grown_by : Parts → List ℕ → ℕ → Planned → Result
+unfoldable pub grown_by : Parts → List ℕ → ℕ → Fallible Planned Refusal → Result
 grown_by t w scratch p = pick (fits_growth scratch) (on_fit (capacity_with t w) (λ c. grown_at t w c p) (misfit t w)) (misfit t w)
 
 -- a first node

@@ -1,6 +1,6 @@
 -- A first node on a table that passes inspection: served, and what it answers and leaves is a row more that stands alone (02, "each begun by a call
 -- for its first node"). 01's new root of an empty table is one.
-use Rattle.std.specs.Prelude.{◌≡◌, Bool, List, ℕ, suc, ◌+◌, ◌*◌, ◌≤◌, ◌<◌, pos}
+use Rattle.std.specs.Prelude.{◌≡◌, Bool, List, ℕ, suc, ◌+◌, ◌*◌, ◌≤◌, ◌<◌, pos, Ok}
 use Rattle.std.proofs.Math.Path.{refl, ap}
 use Rattle.std.proofs.Common.{◌∙◌, arith, length-set, get_or-set_other, le-leb}
 use Rattle.std.proofs.Math.Seq.{get_or-set_same}
@@ -111,11 +111,11 @@ module _ {c : ℕ} (p : Parts) (s : State) (fit : Fits c p) (r : Rules c (table_
       }
 
   module _ (w : List ℕ) (k : TallyOf t w) (scratch : ℕ) (long : least_scratch ≤ scratch) where
-    start_is : grown_by p w scratch (Start n) ≡ growth_result left (counted w 0) (node_at n 1 n)
+    start_is : grown_by p w scratch (Ok (Start n)) ≡ growth_result left (counted w 0) (node_at n 1 n)
     unfolding grown_by grown_at started
     start_is = rw (le-leb least_scratch scratch long, with_told p w fit k.long, tallied_room k {k = 0} room (omega arith))
 
-    start_exactly : StartedExactly c p s (grown_by p w scratch (Start n))
+    start_exactly : StartedExactly c p s (grown_by p w scratch (Ok (Start n)))
     start_exactly =
         let f = lone_long (layer_parts p) (long_parts fit) n room in
         let plainly = start_plain r fit.most room started_is in
@@ -146,6 +146,6 @@ module _ {c : ℕ} (p : Parts) (s : State) (fit : Fits c p) (r : Rules c (table_
     pub root_first_exact : (named : Bool) (opening : ℕ) → Opens named opening → s.count ≡ 0 → StartedExactly c p s (add_root p w scratch s named opening)
     unfolding add_root
     root_first_exact named opening through z =
-        let e : Start n ≡ root_plan p s named opening = ap Start z
+        let e : Ok (Start n) ≡ root_plan p s named opening = ap (λ (m : ℕ). Ok (Start m)) z
         ∙ root_first p s named opening c (capacity_is p fit) (says_true (says_opening named opening) through) (λ e. omega arith) (standing_is p s r) z in
         rw (← e) start_exactly

@@ -1,11 +1,11 @@
 -- Growth on a table that passes inspection, by the definitions that the code's contracts name: it is served, and what it answers and leaves is the
 -- growth that 01 asks for (01, "On a table that passes inspection no call gives 4").
-use Rattle.std.specs.Prelude.{◌≡◌, Bool, true, ◌≢◌, List, ℕ, suc, ◌+◌, ◌*◌, ◌≤◌, ◌<◌}
+use Rattle.std.specs.Prelude.{◌≡◌, Bool, true, ◌≢◌, List, ℕ, suc, ◌+◌, ◌*◌, ◌≤◌, ◌<◌, Result as Fallible, Ok, Some}
 use Rattle.std.proofs.Math.Path.{ap, sym}
 use Rattle.std.proofs.Common.{◌∙◌, arith, le-leb}
 use Rattle.laws.specs.Test.{says_true}
 use Rattle.tree_laws.specs.Ancestor.{none}
-use Rattle.table.specs.declared.capacity.Fit.TheVariants.{Capacity}
+use Rattle.table.specs.declared.refusal.Refusal.{Refusal}
 use Rattle.table.specs.declared.state.State.{State}
 use Rattle.table.specs.Parts.{Parts}
 use Rattle.table.specs.Capacity.{Fits, capacity_of}
@@ -85,7 +85,7 @@ pub record GrownExactly (c : ℕ) (p : Parts) (s : State) (g : Growth) (o : Resu
 
 -- What the calls ask of the parts and the count
 
-pub capacity_is : {c : ℕ} (p : Parts) → Fits c p → Capacity c ≡ capacity_of p
+pub capacity_is : {c : ℕ} (p : Parts) → Fits c p → Some c ≡ capacity_of p
 capacity_is p fit = rw fit.levels at (capacity_fits p (rw fit.levels fit))
 
 pub standing_is : {c : ℕ} (p : Parts) (s : State) → Rules c (table_of p s.count) → is_standing c s ≡ true
@@ -122,7 +122,7 @@ module _ {c : ℕ} (p : Parts) (w : List ℕ) (s : State) (fit : Fits c p) (r : 
   free : has_room w c (label_given g) ≡ true
   free = tallied_room k room (given_most named)
 
-  outcome_is : grown_by p w scratch (Grow (plan fit (site p s.count fit r room g named) (marks t g))) ≡ left
+  outcome_is : grown_by p w scratch (Ok (Grow (plan fit (site p s.count fit r room g named) (marks t g)))) ≡ left
   unfolding grown_by grown_at served
   outcome_is = rw (le-leb least_scratch scratch long, with_told p w fit k.long, free) (ap (λ (x : Stored). growth_result x.parts (counted w (label_given g)) (node_at s.count x.given h)) (plan_stored_lem fit (site p s.count fit r room g named) (marks t g)))
 
@@ -146,7 +146,7 @@ module _ {c : ℕ} (p : Parts) (w : List ℕ) (s : State) (fit : Fits c p) (r : 
         pays = growth_pays (numbered r fit.most) b;
       }
 
-  row_exactly : (q : Planned) → q ≡ Grow (plan fit (site p s.count fit r room g named) (marks t g)) → GrownExactly c p s g (grown_by p w scratch q)
+  row_exactly : (q : Fallible Planned Refusal) → q ≡ Ok (Grow (plan fit (site p s.count fit r room g named) (marks t g))) → GrownExactly c p s g (grown_by p w scratch q)
   row_exactly q e = rw (e, outcome_is) left_exactly
 
 -- The three calls
@@ -171,7 +171,7 @@ module _ {c : ℕ} (p : Parts) (w : List ℕ) (s : State) (fit : Fits c p) (r : 
       over = root x named opening
 
       above : root_over p s (first (table_of p s.count).layer x) x named opening
-          ≡ Grow (plan fit (site p s.count fit r room over (named_root l own through)) (marks (table_of p s.count) over))
+          ≡ Ok (Grow (plan fit (site p s.count fit r room over (named_root l own through)) (marks (table_of p s.count) over)))
       above =
           let g : Named (table_of p s.count) over = named_root l own through in
           let f : ℕ = tree_of (table_of p s.count) over in

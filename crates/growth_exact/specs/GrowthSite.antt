@@ -1,5 +1,5 @@
 -- A growth on a table that passes inspection: the new row joins at the table with one row more, which stands alone.
-use Rattle.std.specs.Prelude.{◌≡◌, true, ◌⊎◌, ℕ, suc, ◌+◌, ◌≤◌, ◌<◌, ℤ, nat_abs, ◌+ℤ◌, ◌-ℤ◌}
+use Rattle.std.specs.Prelude.{◌≡◌, true, ◌⊎◌, ℕ, suc, ◌+◌, ◌≤◌, ◌<◌, ℤ, nat_abs, Ok, Some}
 use Rattle.std.proofs.Math.Path.{refl}
 use Rattle.std.proofs.Common.{ap, sym, inl, inr, arith}
 use borrow.Author.Tests.{le-leb}
@@ -12,7 +12,6 @@ use Rattle.layer.specs.declared.row.Row.{Row}
 use Rattle.table.specs.Parts.{Parts}
 use Rattle.table.specs.Capacity.{Fits}
 use Rattle.table.specs.Level.{level_limit}
-use Rattle.layer.specs.StoredTree.{first}
 use Rattle.table.specs.Table.{Table, table_of}
 use Rattle.layer.specs.Layer.{Layer}
 use Rattle.table.specs.Rules.{Rules}
@@ -21,7 +20,7 @@ use Rattle.layer.specs.Numbered.{Numbered}
 use Rattle.layer_laws.proofs.Numbered.{shape, in_tree, first_in}
 use Rattle.layer_laws.proofs.SoundRows.{numbered_sound}
 use Rattle.table_laws.specs.LevelBounds.{level_depth, abs_suc, abs_pred}
-use Rattle.growth_laws.specs.Growth.{Growth, leaf, root, Named, named_leaf, named_root, parent_of, face_of, level_of, tree_of}
+use Rattle.growth_laws.specs.Growth.{Growth, Named, named_leaf, named_root, parent_of, face_of, level_of, tree_of}
 use Rattle.join_laws.specs.Extend.{with_lone}
 use Rattle.join_laws.proofs.Extend.{row_old, entry_old, extend, extend_alone}
 use Rattle.growth_laws.specs.Grown.{Grown}
@@ -29,11 +28,9 @@ use Rattle.growth_laws.specs.GrowthFrame.{GrowthFrame}
 use Rattle.growth_laws.proofs.GrowthFrameLaws.{grown_frame}
 use Rattle.growth_laws.proofs.GrowthKeepsRules.{growth_keeps_rules}
 use Rattle.join_laws.proofs.LoneLaws.{parted_numbered}
-use Rattle.join_laws.specs.Renumbered.{rows}
 use Rattle.growth_plan.specs.declared.row.Planned.TheVariants.{Grow}
 use Rattle.layer.specs.Checked.{is_row}
 use Rattle.layer.specs.CheckedLaws.{says_row}
-use Rattle.growth_plan.specs.declared.level.Level.TheVariants.{At}
 use Rattle.growth_plan.specs.Level.{level_from}
 use Rattle.growth_plan.specs.PlannedRow.{planned_row}
 use Rattle.renumber_laws.specs.Column.{put}
@@ -96,13 +93,13 @@ module _ {c : ℕ} (p : Parts) (n : ℕ) (fit : Fits c p) (r : Rules c (table_of
       go (named_root {r = v} l e o) = inr (omega (arith, first_in num (in_tree num v l)))
 
   -- its level is one, as is the level that it is made from
-  pub level_planned : (w : ℤ) → nat_abs w ≤ level_limit → level_from w (level_of t g) ≡ At (level_of t g)
+  pub level_planned : (w : ℤ) → nat_abs w ≤ level_limit → level_from w (level_of t g) ≡ Some (level_of t g)
   unfolding level_from
   level_planned w b = rw (le-leb (nat_abs w) level_limit b, le-leb (nat_abs (level_of t g)) level_limit level_within) refl
 
   -- planned, with no refusal
   pub grows : planned_row p.fields p.numbers p.ancestors n n (parent_of g) (marks t g)
-      ≡ Grow (plan fit site (marks t g))
+      ≡ Ok (Grow (plan fit site (marks t g)))
   grows = row_planned fit site (marks t g)
 
   abbrev pub head_row : ℕ

@@ -1,5 +1,5 @@
 -- At a site a row is planned with its marks, and what is stored by the plan is a join in the layer, with the label, the face, the level and the root record asked for.
-use Rattle.std.specs.Prelude.{◌≡◌, ◌⊎◌, ◌≢◌, ℕ, ◌≤◌, ◌<◌, pos}
+use Rattle.std.specs.Prelude.{◌≡◌, ◌⊎◌, ◌≢◌, ℕ, ◌≤◌, ◌<◌, pos, Ok}
 use Rattle.std.proofs.Math.Path.{ap}
 use Rattle.std.proofs.Common.{sym, ◌∙◌, inl, inr, arith, length-set, get_or-set_same, get_or-set_other}
 use Rattle.tree_laws.specs.Ancestor.{none}
@@ -19,7 +19,7 @@ use Rattle.growth_plan.specs.declared.row.Plan.{Plan}
 use Rattle.growth_plan.specs.declared.row.Planned.TheVariants.{Grow}
 use Rattle.growth_plan.specs.PlannedRow.{planned_row}
 use Rattle.growth_plan.specs.PlannedRowLaws.{on_seat}
-use Rattle.growth_store.specs.Store.{Stored, stored, marked, with_marks, plan_stored}
+use Rattle.growth_store.specs.Store.{stored, marked, with_marks, plan_stored}
 use Rattle.renumber_laws.specs.Column.{put}
 use Rattle.renumber_laws.proofs.Column.{put_other}
 use Rattle.renumber_exact.specs.Lent.{Long}
@@ -39,7 +39,7 @@ module _ {c k : ℕ} {p : Parts} {t : Layer} {z v : ℕ} (fit : Fits c p) (s : S
   abbrev pub plan : Plan
   plan = record { seat = seat s; marks = m }
 
-  pub row_planned : planned_row p.fields p.numbers p.ancestors k z v m ≡ Grow plan
+  pub row_planned : planned_row p.fields p.numbers p.ancestors k z v m ≡ Ok (Grow plan)
   row_planned = sym (on_seat p.fields p.numbers p.ancestors k z v m (seat s) (sym (seat_found s)))
 
   -- What is stored by it

@@ -1,6 +1,8 @@
 -- The answers of a plan, each from the facts that lead to it.
-use Rattle.std.specs.Prelude.{◌≡◌, Bool, true, false, ◌≢◌, List, ℕ, ◌≤◌, ◌<◌, ℤ, pos, ◌+ℤ◌, ◌-ℤ◌, Ok, Err, Some, None}
+use Rattle.std.specs.Prelude.{◌≡◌, Bool, true, false, ◌≢◌, List, ℕ, ◌≤◌, ◌<◌, ℤ, pos, ◌+ℤ◌, ◌-ℤ◌, Ok, Err, Some, None, Option, refl}
 use Rattle.std.proofs.Common.{◌∙◌, sym, ap, mul-le-mul_right, arith}
+use Rattle.std.specs.Bool.{then_some}
+use Rattle.std.specs.Option.{is_some, unwrap_or}
 use borrow.Author.Tests.{eq-eqb, ne_eqb, lt-ltb, le-ltb}
 use Rattle.laws.specs.Test.{pick, says_get}
 use Rattle.tree_laws.specs.Ancestor.{none}
@@ -116,6 +118,11 @@ module _ (t : Parts) (s : State) where
 
 -- a new root --------------------------------------------------------------------------
 
+-- the label of a new root's mark: the opening, or 0 where none is named
+pub opened : (o : Option ℕ) → unwrap_or o 0 ≡ pick (is_some o) (unwrap_or o 0) 0
+opened (Some n) = refl
+opened None = refl
+
 module _ (t : Parts) (s : State) (tree r : ℕ) (named : Bool) (opening : ℕ) where
   pub above_out : None ≡ level_from (level_at t.levels r) (level_at t.levels r -ℤ pos 1) → Err Corrupt ≡ root_over t s tree r named opening
   unfolding root_over
@@ -202,3 +209,17 @@ module _ (t : Parts) (s : State) (named : Bool) (opening : ℕ) where
                 → root_over t s (tree_at t.ancestors s.count 0) (root_at t.fields t.ancestors s.count 0) named opening ≡ root_plan t s named opening
             unfolding root_plan root_within
             root_row r = rw (← fit, d, ne_eqb s.count c e, g, ne_eqb s.count 0 z, ne_eqb (root_at t.fields t.ancestors s.count 0) none r)
+
+-- the plan by a flag and a number: where no opening is named, its number is not looked at
+module _ (t : Parts) (s : State) where
+  pub over_told : (x : ℕ) (named : Bool) (opening : ℕ)
+      → over_plan t s x (is_some (then_some named opening)) (unwrap_or (then_some named opening) 0) ≡ over_plan t s x named opening
+  unfolding over_plan over_within root_over
+  over_told x true opening = refl
+  over_told x false opening = refl
+
+  pub root_told : (named : Bool) (opening : ℕ)
+      → root_plan t s (is_some (then_some named opening)) (unwrap_or (then_some named opening) 0) ≡ root_plan t s named opening
+  unfolding root_plan root_within root_over
+  root_told true opening = refl
+  root_told false opening = refl

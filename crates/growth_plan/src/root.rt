@@ -1,5 +1,6 @@
 // A new root before the first store: its refusals in their order, and its plan.
 ghost use Rattle.std.specs.Prelude.{◌≡◌};
+ghost use Rattle.std.specs.Option.{is_some, unwrap_or};
 ghost use Rattle.laws.specs.Test.{pick};
 ghost use Rattle.table.specs.Lent.{parts_in};
 ghost use Rattle.layer.specs.Checked.{Holds};
@@ -16,24 +17,24 @@ use table::refusal::Refusal;
 use table::state::{State, is_standing};
 use table::tree::{root_of, tree_of};
 
-// The label of an opening (the paper's word for what an old root is seen through), where one is named; else its number is not looked at.
-fn is_opening(named: bool, opening: u16) -> bool
-    ensures { result ≡ is_opening named opening }
+// The label of an opening (the paper's word for what an old root is seen through), where one is named.
+fn is_opening(opening: Option<u16>) -> bool
+    ensures { result ≡ is_opening (is_some opening) (unwrap_or opening 0) }
 {
-    if named {
-        return is_label(opening);
+    match opening {
+        Some(label) => is_label(label),
+        None => true,
     }
-    true
 }
 
-// By whether an opening is named.
-fn if_named(named: bool, yes: u16, no: u16) -> u16
-    ensures { result ≡ pick named yes no }
+// The row that takes the label: the old root r where an opening is named, else the new row.
+fn labelled_by(opening: Option<u16>, r: u16, row: u16) -> u16
+    ensures { result ≡ pick (is_some opening) r row }
 {
-    if named {
-        return yes;
+    match opening {
+        Some(_) => r,
+        None => row,
     }
-    no
 }
 
 // The plan of a new root over r, the root of the tree whose first row is `tree`: r takes the opening, where one is named, as its label.
@@ -42,19 +43,18 @@ fn plan_above(
     state: State,
     tree: u16,
     r: u16,
-    named: bool,
-    opening: u16,
+    opening: Option<u16>,
 ) -> Result<Planned, Refusal>
     requires { Holds state.count parts.now.fields.now parts.now.numbers.now }
-    ensures { result ≡ root_over (parts_in parts.now) state tree r named opening }
+    ensures { result ≡ root_over (parts_in parts.now) state tree r (is_some opening) (unwrap_or opening 0) }
 {
     let Some(at) = root_level(level(parts.levels, r)) else {
         return Err(Refusal::Corrupt);
     };
     let marks = Marks {
         level: at,
-        labelled: if_named(named, r, state.count),
-        label: if_named(named, opening, 0),
+        labelled: labelled_by(opening, r, state.count),
+        label: opening.unwrap_or(0),
         face: 0,
         tree,
     };
@@ -90,10 +90,9 @@ pub fn plan_over(
     parts: &Parts<'_>,
     state: State,
     x: u16,
-    named: bool,
-    opening: u16,
+    opening: Option<u16>,
 ) -> Result<Planned, Refusal>
-    ensures { result ≡ over_plan (parts_in parts.now) state x named opening }
+    ensures { result ≡ over_plan (parts_in parts.now) state x (is_some opening) (unwrap_or opening 0) }
 {
     let Some(cap) = capacity(parts) else {
         return Err(Refusal::Misfit);
@@ -101,7 +100,7 @@ pub fn plan_over(
     if state.count <= x {
         return Err(Refusal::UnknownNode);
     }
-    if !is_opening(named, opening) {
+    if !is_opening(opening) {
         return Err(Refusal::BadLabel);
     }
     if !is_standing(cap, state) {
@@ -118,22 +117,21 @@ pub fn plan_over(
     if (state.count as usize) == cap {
         return Err(Refusal::Full);
     }
-    plan_above(parts, state, tree, x, named, opening)
+    plan_above(parts, state, tree, x, opening)
 }
 
 // Why a new root over that of the first tree, that of row 0, is refused, or its plan.
 pub fn plan_root(
     parts: &Parts<'_>,
     state: State,
-    named: bool,
-    opening: u16,
+    opening: Option<u16>,
 ) -> Result<Planned, Refusal>
-    ensures { result ≡ root_plan (parts_in parts.now) state named opening }
+    ensures { result ≡ root_plan (parts_in parts.now) state (is_some opening) (unwrap_or opening 0) }
 {
     let Some(cap) = capacity(parts) else {
         return Err(Refusal::Misfit);
     };
-    if !is_opening(named, opening) {
+    if !is_opening(opening) {
         return Err(Refusal::BadLabel);
     }
     if (state.count as usize) == cap {
@@ -150,5 +148,5 @@ pub fn plan_root(
     if root == NONE {
         return Err(Refusal::Corrupt);
     }
-    plan_above(parts, state, tree, root, named, opening)
+    plan_above(parts, state, tree, root, opening)
 }

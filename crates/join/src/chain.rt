@@ -36,8 +36,7 @@ pub fn top_of(fields: &[u16], numbers: &[u64], count: u16, first: u16) -> Option
 {
     let mut u = first;
     let mut top = NONE;
-    let mut k: u16 = 0;
-    while k < count {
+    for _ in 0..count {
         if u == NONE {
             return Some(top);
         }
@@ -46,7 +45,6 @@ pub fn top_of(fields: &[u16], numbers: &[u64], count: u16, first: u16) -> Option
         }
         top = higher(fields, u, top);
         u = field(fields, u, UPPER);
-        k += 1;
     }
     if u == NONE {
         return Some(top);
@@ -67,13 +65,11 @@ pub fn raise(fields: &mut [u16], count: u16, first: u16)
     ensures { fields.new ≡ raised count fields.old first }
 {
     let mut u = first;
-    let mut k: u16 = 0;
-    while k < count {
+    for _ in 0..count {
         if u == NONE {
             return;
         }
         raise_at(fields, u);
         u = field(fields, u, UPPER);
-        k += 1;
     }
 }

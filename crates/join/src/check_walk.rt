@@ -106,10 +106,8 @@ pub fn check_walk(
         down: true,
         ok: true,
     };
-    let mut k: u32 = 0;
-    while k < steps {
+    for _ in 0..steps {
         t = check_turn(fields, numbers, count, leaf, head, t);
-        k += 1;
     }
     t.ok & !t.down & (t.row == head)
 }

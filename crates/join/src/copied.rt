@@ -10,10 +10,8 @@ fn are_links(entries: &[u16], count: u16) -> bool
     ensures { result ≡ are_links count entries.now }
 {
     let mut held = true;
-    let mut i: usize = 0;
-    while i < entries.len() {
+    for i in 0..entries.len() {
         held = held & is_link(entries[i], count);
-        i += 1;
     }
     held
 }

@@ -1,10 +1,10 @@
 -- The head that the plan finds is the head of the joined row's chain.
-use Rattle.std.specs.Prelude.{◌≡◌, Bool, true, ◌≢◌, ℕ, ◌+◌, ◌*◌, ◌≤◌, ◌<◌, eqb}
+use Rattle.std.specs.Prelude.{◌≡◌, Bool, ◌≢◌, ℕ, ◌+◌, ◌*◌, ◌≤◌, ◌<◌, eqb, Some}
 use Rattle.std.proofs.Math.Path.{refl, ap, sym}
 use Rattle.std.proofs.Common.{◌∙◌, arith, ne_eqb}
 use Rattle.std.proofs.Math.Decide.{ℕ_discrete}
 use Rattle.laws.specs.Test.{Says, says_true, says_leb, pick}
-use Rattle.tree_laws.specs.Ancestor.{none, Anc, here, Forest}
+use Rattle.tree_laws.specs.Ancestor.{none, Anc, Forest}
 use Rattle.tree_laws.specs.AncestorLaws.{row_some}
 use Rattle.tree_laws.specs.CompressedLaws.{size_apex_lem}
 use Rattle.tree_laws.specs.Highest.{Highest, absent, highest}
@@ -34,7 +34,6 @@ use Rattle.layer_laws.proofs.Bounds.{end_small as end_within}
 use Rattle.join_laws.specs.Trees.{OwnTrees}
 use Rattle.join_laws.proofs.Trees.{own_trees, stored, uppers}
 use Rattle.renumber_laws.specs.Renumbering.{Renumberable}
-use Rattle.join.specs.declared.chain.Top.TheVariants.{At}
 use Rattle.renumber.specs.declared.Head.{Head as PlanHead}
 use Rattle.counts.specs.Count.{one_more}
 use Rattle.join.specs.Chain.{outgrown_at, top_from}
@@ -155,9 +154,9 @@ module _ {c k : ℕ} {p : Written} {t : Layer} {z v : ℕ} (s : Site c p k t z v
   is_head = highest_head m (uppers trees) s.alone.inside new_due head_highest
 
   -- as the plan finds it
-  pub top_found : top_from k p.fields p.numbers k u none ≡ At head_top
+  pub top_found : top_from k p.fields p.numbers k u none ≡ Some head_top
   unfolding head_top
-  top_found = top.found ∙ ap At (go (ℕ_discrete top.row none))
+  top_found = top.found ∙ ap Some (go (ℕ_discrete top.row none))
     where
       go : Dec (top.row ≡ none) → pick (eqb top.row none) none top.row ≡ top.row
       go (yes e) = rw e refl

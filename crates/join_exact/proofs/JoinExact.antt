@@ -14,7 +14,7 @@ use Rattle.tree_laws.specs.JoinLaws.{old_up, anc_new, new_anc}
 use Rattle.layer.specs.declared.row.Row.{Row}
 use Rattle.layer.specs.Layout.{field_stride, parent_place, first_place, last_place, next_place, upper_place, path_place, set_size_place, depth_place}
 use Rattle.layer.specs.Row.{field_at}
-use Rattle.layer.specs.Layer.{Layer, parent, depth, upper, path, size}
+use Rattle.layer.specs.Layer.{Layer, parent, upper, path}
 use Rattle.layer.specs.StoredTree.{Child}
 use Rattle.join_laws.specs.Joined.{LinksAfter, Planted, Joined}
 use Rattle.join_laws.specs.Lone.{Kept}

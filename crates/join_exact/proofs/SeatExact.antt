@@ -1,5 +1,5 @@
 -- At a site a row has a seat, and the seat's head is the head of its chain.
-use Rattle.std.specs.Prelude.{◌≡◌, Bool, true, false, ◌||◌, not, ◌≢◌, List, ℕ, ◌≤◌, ◌<◌, eqb}
+use Rattle.std.specs.Prelude.{◌≡◌, Bool, true, false, ◌||◌, not, ◌≢◌, List, ℕ, ◌≤◌, ◌<◌, eqb, Some}
 use Rattle.std.proofs.Math.Path.{refl, ap, sym}
 use Rattle.std.proofs.Common.{◌∙◌, arith}
 use Rattle.std.proofs.Math.Decide.{ℕ_discrete}
@@ -23,13 +23,11 @@ use Rattle.join_laws.specs.Head.{Head}
 use Rattle.join_laws.specs.Renumbered.{rows}
 use Rattle.join_laws.specs.Trees.{OwnTrees}
 use Rattle.join_laws.proofs.Trees.{own_trees, stored}
-use Rattle.join.specs.declared.attach.Leaf.{Leaf}
 use Rattle.join.specs.Attach.{first_of, first_after, next_after, parent_after}
 use Rattle.join.specs.CheckWalk.{is_readable}
 use Rattle.join.specs.Copied.{copies_links}
 use Rattle.layer.specs.Checked.{is_row}
 use Rattle.join.specs.declared.seat.Seat.{Seat}
-use Rattle.join.specs.declared.seat.Seating.TheVariants.{At}
 use Rattle.join.specs.Seat.{upper_under, upper_for, leaf_under, head_of, is_first, is_seated, is_whole, seat_of}
 use Rattle.join.specs.SeatLaws.{seated, on_top}
 use Rattle.join.specs.Store.{joined_at}
@@ -176,7 +174,7 @@ module _ {c k : ℕ} {p : Written} {t : Layer} {z v : ℕ} (s : Site c p k t z v
   abbrev pub seat : Seat
   seat = record { leaf = leaf_under p.fields z v; upper = u; depth = deep; head = head_at m h }
 
-  pub seat_found : seat_of p.fields p.numbers p.ancestors k z v ≡ At seat
+  pub seat_found : seat_of p.fields p.numbers p.ancestors k z v ≡ Some seat
   seat_found =
       let g : List ℕ = p.fields in
       let e : head_of g top z u ≡ head_at m h = head_planned s w u deep leaf_of in

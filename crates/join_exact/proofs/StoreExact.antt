@@ -9,7 +9,7 @@ use Rattle.span.specs.Constants.{limit}
 use Rattle.span.specs.Numbers.{end_of}
 use Rattle.layer.specs.Layout.{number_stride, next_free_place}
 use Rattle.layer.specs.Row.{number_at}
-use Rattle.layer.specs.Layer.{Layer, parent, upper, size, set_size, start}
+use Rattle.layer.specs.Layer.{Layer, parent, upper, set_size, start}
 use Rattle.layer.specs.Numbered.{Numbered}
 use Rattle.join_laws.specs.Joined.{Joined}
 use Rattle.join_laws.specs.JoinStep.{JoinStep}
@@ -17,7 +17,7 @@ use Rattle.join_laws.proofs.JoinStep.{join_keeps}
 use Rattle.join_laws.specs.Lone.{Kept}
 use Rattle.join_laws.proofs.KeptLaws.{kept_trans}
 use Rattle.join_laws.specs.Head.{Head}
-use Rattle.join_laws.specs.Renumbered.{rows, Renumbered}
+use Rattle.join_laws.specs.Renumbered.{rows}
 use Rattle.join_laws.proofs.RenumberedLaws.{head_rows as rows_size}
 use Rattle.join_laws.proofs.FrameLaws.{join_head}
 use Rattle.layer_laws.proofs.Bounds.{end_small as end_within}

@@ -1,5 +1,5 @@
 -- The walk up the chain finds its highest row that has outgrown its set size.
-use Rattle.std.specs.Prelude.{◌≡◌, refl, Bool, true, false, ◌≢◌, List, ℕ, zero, suc, ◌<◌, eqb}
+use Rattle.std.specs.Prelude.{◌≡◌, refl, Bool, true, false, ◌≢◌, List, ℕ, zero, suc, ◌<◌, eqb, Option, Some}
 use Rattle.std.proofs.Common.{ap, ◌∙◌, arith, ne_eqb}
 use Rattle.std.proofs.Math.Decide.{ℕ_discrete}
 use Rattle.laws.specs.Test.{Says, pick}
@@ -9,17 +9,15 @@ use Rattle.tree_laws.specs.Highest.{Highest, highest_from}
 use Rattle.tree_laws.specs.HighestLaws.{highest_root, highest_below}
 use Rattle.layer.specs.Layout.{upper_place}
 use Rattle.layer.specs.Row.{field_at, row_of}
-use Rattle.join.specs.declared.chain.Top.{Top}
-use Rattle.join.specs.declared.chain.Top.TheVariants.{At}
 use Rattle.layer.specs.Checked.{is_row}
 use Rattle.join.specs.Chain.{outgrown_at, top_from}
 use Rattle.join.specs.ChainLaws.{top_stop, top_on}
 
 -- the highest row from u up that has P, and what the walk that has `top` already ends with
-pub record Found (up : ℕ → ℕ) (P : ℕ → Type 0) (u top : ℕ) (r : Top) : Type 0 where
+pub record Found (up : ℕ → ℕ) (P : ℕ → Type 0) (u top : ℕ) (r : Option ℕ) : Type 0 where
   pub row : ℕ
   pub is : Highest up P u row
-  pub found : r ≡ At (pick (eqb row none) top row)
+  pub found : r ≡ Some (pick (eqb row none) top row)
 
 module _ {up rank : ℕ → ℕ} {n : ℕ} {In : ℕ → Type 0} (t : Forest up rank n) (in_use : (y : ℕ) → In y → y < n)
     (closed : (y : ℕ) → In y → up y ≢ none → In (up y)) (k : ℕ) (f m : List ℕ) (uppers : (y : ℕ) → In y → field_at f y upper_place ≡ up y)
@@ -41,14 +39,14 @@ module _ {up rank : ℕ → ℕ} {n : ℕ} {In : ℕ → Type 0} (t : Forest up 
     | yes e ↦ record {
       row = highest_from (outgrown_at f) none u;
       is = highest_root t (outgrown_at f) says u (in_use u i) e;
-      found = on fuel u top i ∙ top_stop f m k (up u) (pick (outgrown_at f u) u top) fuel e ∙ ap At (itself u top i (outgrown_at f u));
+      found = on fuel u top i ∙ top_stop f m k (up u) (pick (outgrown_at f u) u top) fuel e ∙ ap Some (itself u top i (outgrown_at f u));
     }
     | no d ↦
         let b = more (up u) (pick (outgrown_at f u) u top) (closed u i d) (omega (arith, t.falls u (in_use u i) d)) in
         record {
           row = highest_from (outgrown_at f) b.row u;
           is = highest_below t (outgrown_at f) says (in_use u i) d b.is;
-          found = on fuel u top i ∙ b.found ∙ ap At (joined b.row (ℕ_discrete b.row none));
+          found = on fuel u top i ∙ b.found ∙ ap Some (joined b.row (ℕ_discrete b.row none));
         }
   ]
     where

@@ -1,8 +1,7 @@
 -- The walk before the first store meets the rows below the head, each from its parent, and comes back up to the head.
 use Rattle.std.specs.Prelude.{◌≡◌, List}
 use Prim.Native.Nat.{ℕ, ◌<◌}
-use Rattle.tree_laws.specs.Siblings.{count}
-use Rattle.layer.specs.Layer.{Layer, parent}
+use Rattle.layer.specs.Layer.{Layer}
 use Rattle.join.specs.declared.attach.Leaf.{Leaf}
 use Rattle.join.specs.Attach.{first_after, next_after, parent_after}
 

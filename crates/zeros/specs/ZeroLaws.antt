@@ -1,6 +1,6 @@
 -- From a place on: how a word of eight bytes, a block of four words and a single byte decide whether all are zero.
-use Rattle.std.specs.Prelude.{◌≡◌, refl, List, [], ◌∷◌, ◌++◌, Bool, true, false, ◌&&◌, ℕ, ◌+◌, ◌≤◌, ◌<◌, length, get_or, take, drop, eqb}
-use Rattle.std.proofs.Common.{sym, ap, ◌∙◌, add-one, arith, take-append-drop, drop_of_length-le, take-add, drop-cons, drop-drop, ne_eqb}
+use Rattle.std.specs.Prelude.{◌≡◌, refl, List, [], ◌∷◌, ◌++◌, Bool, true, false, ◌&&◌, ℕ, ◌+◌, take, drop, eqb}
+use Rattle.std.proofs.Common.{sym, ap, ◌∙◌, arith, take-append-drop, take-add, drop-drop}
 use Rattle.byte_numbers.specs.Bytes.{value_at}
 use Rattle.zeros.specs.Zeros.{all_zero, zeros_at}
 use Rattle.zeros.specs.WordZero.{word_test}
@@ -22,18 +22,6 @@ module _ (bytes : List ℕ) (i : ℕ) where
   pub zeros_on : (w : ℕ) → zeros_at w bytes i ≡ true → all_zero (drop i bytes) ≡ all_zero (drop (i + w) bytes)
   zeros_on w z =
       ap all_zero (sym (take-append-drop w (drop i bytes))) ∙ zero_append (take w (drop i bytes)) (drop w (drop i bytes)) ∙ rw (z, drop-drop w i bytes)
-
-  -- and past a zero byte
-  pub byte_on : i < length bytes → get_or bytes i 0 ≡ 0 → all_zero (drop i bytes) ≡ all_zero (drop (i + 1) bytes)
-  byte_on h z = rw (add-one, drop-cons bytes i 0, z)
-
-  -- a byte that is not zero decides
-  pub byte_stop : i < length bytes → (get_or bytes i 0 ≡ 0 → ⊥) → all_zero (drop i bytes) ≡ false
-  byte_stop h z = rw (drop-cons bytes i 0, ne_eqb (get_or bytes i 0) 0 z)
-
-  -- no byte is left to decide
-  pub zero_end : length bytes ≤ i → all_zero (drop i bytes) ≡ true
-  zero_end h = rw drop_of_length-le
 
 zeros_join : (bytes : List ℕ) (i v w : ℕ) → zeros_at (v + w) bytes i ≡ (zeros_at v bytes i && zeros_at w bytes (i + v))
 zeros_join bytes i v w = ap all_zero (take-add v w (drop i bytes)) ∙ zero_append (take v (drop i bytes)) (take w (drop v (drop i bytes))) ∙ rw (drop-drop v i bytes)

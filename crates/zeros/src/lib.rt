@@ -3,7 +3,8 @@
 
 #![tactic(auto)]
 
-ghost use Rattle.std.specs.Prelude.{◌≡◌, ◌+◌, ◌≤◌, length, drop};
+ghost use Rattle.std.specs.List.{list_all};
+ghost use Rattle.std.specs.Prelude.{◌≡◌, ◌==◌, ◌+◌, ◌≤◌, length, drop};
 ghost use Rattle.zeros.specs.Zeros.{all_zero, zeros_at};
 ghost use Rattle.zeros.specs.Passed.{Passed};
 
@@ -43,14 +44,13 @@ fn zero_block(bytes: &[u8], i: usize) -> bool
 fn zero_blocks(bytes: &[u8]) -> usize
     ensures { Passed 32 bytes.now 0 result }
 {
-    let mut i: usize = 0;
-    while i + BLOCK <= bytes.len() {
-        if !zero_block(bytes, i) {
-            return i;
+    let blocks = bytes.len() / BLOCK;
+    for k in 0..blocks {
+        if !zero_block(bytes, k * BLOCK) {
+            return k * BLOCK;
         }
-        i += BLOCK;
     }
-    i
+    blocks * BLOCK
 }
 
 // Where words of zeros from a place on end.
@@ -58,33 +58,26 @@ fn zero_words(bytes: &[u8], start: usize) -> usize
     requires { start ≤ length bytes.now }
     ensures { Passed 8 bytes.now start result }
 {
-    let mut i = start;
-    while i + WORD <= bytes.len() {
-        if !zero_word(bytes, i) {
-            return i;
+    let words = (bytes.len() - start) / WORD;
+    for k in 0..words {
+        if !zero_word(bytes, start + k * WORD) {
+            return start + k * WORD;
         }
-        i += WORD;
     }
-    i
+    start + words * WORD
 }
 
-// Whether every byte from a place on is zero, taken singly.
-fn zero_from(bytes: &[u8], from: usize) -> bool
-    ensures { result ≡ all_zero (drop from bytes.now) }
+// Whether every byte is zero, taken singly.
+fn zero_singly(bytes: &[u8]) -> bool
+    ensures { result ≡ list_all (λ b. b == 0) bytes.now }
 {
-    let mut i = from;
-    while i < bytes.len() {
-        if bytes[i] != 0 {
-            return false;
-        }
-        i += 1;
-    }
-    true
+    bytes.iter().all(|b| *b == 0)
 }
 
 // Whether every byte is zero. Past the words of zeros there are the last few bytes, or a word that tells within eight.
 pub fn all_zero(bytes: &[u8]) -> bool
     ensures { result ≡ all_zero bytes.now }
 {
-    zero_from(bytes, zero_words(bytes, zero_blocks(bytes)))
+    let rest = zero_words(bytes, zero_blocks(bytes));
+    zero_singly(&bytes[rest..])
 }

@@ -2,6 +2,6 @@
 use Rattle.growth.specs.Growth.{add_leaf}
 use Rattle.growth.proofs.add_leaf.Goals as goal
 
-pub returns : goal.returns
+pub returns-clause-grown : goal.returns-clause-grown
 unfolding add_leaf
-returns c = rw c.plan_leaf-planned.ensures at c.grow.ensures
+returns-clause-grown c = rw (c.plan_leaf-planned.ensures, c.read.ensures) at c.grow.ensures.grown

@@ -1,13 +1,7 @@
--- `put32`: two numbers of 16 bits, the low one first.
-use mathlib.Core.Path.{ap, ◌∙◌}
-use mathlib.Core.List.{List}
-use Prim.Native.Nat.{ℕ, ◌+◌, ◌/◌, ◌%◌}
-use lib.Seq.{sets}
-use Rattle.byte_numbers.specs.Bytes.{bytes}
-use Rattle.byte_numbers.specs.BytesLaws.{bytes_four, sets_join}
+-- `put32` stores the number's bytes at its place.
+use Rattle.byte_numbers.specs.BytesLaws.{stored}
+use Rattle.std.proofs.Common.{◌∙◌}
 use Rattle.byte_numbers.proofs.word.put32.Goals as goal
 
 pub returns : goal.returns
-returns c = let a = c.args in
-    c.put16-2.ensures ∙ ap (λ (l : List ℕ). sets l (a.i + 2) (bytes 2 (a.x / 65536))) c.put16.ensures
-    ∙ sets_join (bytes 2 (a.x % 65536)) (bytes 2 (a.x / 65536)) a.b.now a.i ∙ ap (λ (l : List ℕ). sets a.b.now a.i l) (bytes_four a.x)
+returns c = let a = c.args in stored a.b.now c.copy_from_slice.new.self a.i 4 a.x c.requires (c.copy_from_slice.ensures.after ∙ c.to_le_bytes.ensures)

@@ -1,8 +1,9 @@
 -- `read_parts`: each column from its place.
-use Rattle.table.specs.Parts.{parts_of}
+use Rattle.table.specs.Lent.{parts_in_mut}
+use Rattle.bytes_tree.specs.Column.{numbers_at, levels_at}
 use Rattle.bytes_tree.specs.TreeLaws.{parts_read}
 use Rattle.bytes_tree.proofs.tree.read_parts.Goals as goal
 
-pub returns : goal.returns
-returns c = let a = c.args in
-    parts_read a.b.now (parts_of a.fields.now a.numbers.now a.levels.now a.ancestors.now) c.requires.fits c.read16.ensures c.read64.ensures c.read_levels.ensures c.read16-2.ensures
+pub returns-clause-held : goal.returns-clause-held
+unfolding numbers_at levels_at
+returns-clause-held c = parts_read c.args.b.now (parts_in_mut c.args.parts.now) c.requires.fits c.read.ensures c.read-2.ensures c.read-3.ensures c.read-4.ensures
