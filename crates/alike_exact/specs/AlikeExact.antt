@@ -1,7 +1,7 @@
 -- On a table that passes inspection the alike call on two nodes below the count that have a common ancestor is served, and its outcome is 1 exactly when
 -- their lists of labels and their lists of faces, by the naive definition on the plain trees that the table records, are equal. On nodes of different trees it
 -- is refusal 12.
-use Rattle.std.specs.Prelude.{◌≡◌, Bool, true, false, ◌≢◌, ℤ, pos, ◌+ℤ◌, ◌-ℤ◌}
+use Rattle.std.specs.Prelude.{◌≡◌, Bool, true, false, ◌≢◌, Option, ℤ, pos, ◌+ℤ◌, ◌-ℤ◌}
 use Rattle.std.proofs.Math.Path.{refl}
 use Rattle.std.proofs.Common.{ap, sym, ◌∙◌, arith}
 use Prim.Native.Nat.{ℕ, zero, suc, ◌≤◌, ◌<◌}
@@ -104,7 +104,7 @@ module _ {capacity : ℕ} {t : Table} (r : Rules capacity t) (fits : capacity �
   ]
 
   -- by an exact stored answer
-  module _ {stored : ℕ → ℕ → Fork} (exact : StoredExact t.layer stored) where
+  module _ {stored : ℕ → ℕ → Option Fork} (exact : StoredExact t.layer stored) where
     -- a turn is right where the walk from the plain parents is
     turn_exact : (x y : ℕ) (on : ℕ → ℕ → Outcome) → InTree t.layer f x → InTree t.layer f y
         → (plain t x ≢ none → plain t y ≢ none → ExactOutcome t (plain t x) (plain t y) (on (plain t x) (plain t y)))

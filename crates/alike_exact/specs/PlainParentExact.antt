@@ -1,5 +1,5 @@
 -- On a table that passes inspection the plain parent that the code finds by an exact stored answer is that of the plain tree.
-use Rattle.std.specs.Prelude.{◌≡◌, refl, Bool, true, false, ℕ, ◌≤◌, eqb}
+use Rattle.std.specs.Prelude.{◌≡◌, refl, Bool, true, false, ℕ, ◌≤◌, Option, eqb}
 use Rattle.std.proofs.Math.Path.{sym}
 use Rattle.std.proofs.Common.{◌∙◌}
 use Rattle.laws.specs.Test.{says_eq, says_eqb, pick}
@@ -27,20 +27,21 @@ pick_twice : (b c : Bool) (u w v : ℕ) → pick b u (pick c (pick c w u) v) ≡
 pick_twice b true u w v = refl
 pick_twice b false u w v = refl
 
-module _ {capacity : ℕ} {t : Table} (r : Rules capacity t) (fits : capacity ≤ node_limit) {stored : ℕ → ℕ → Fork} (exact : StoredExact t.layer stored) where
+module _ {capacity : ℕ} {t : Table} (r : Rules capacity t) (fits : capacity ≤ node_limit) {stored : ℕ → ℕ → Option Fork} (exact : StoredExact t.layer stored) where
   tree : Forest (parent t.layer) (depth t.layer) t.layer.count
   tree = stored_tree (numbered r fits)
 
   -- the level of z is minus its depth exactly where z is its own nearest common ancestor with the root
-  line_test : {f : ℕ} (z : ℕ) → InTree t.layer f z → on_line t z ≡ eqb (stored z (t.root f)).nca z
+  line_test : {f : ℕ} (z : ℕ) (i : InTree t.layer f z) → on_line t z ≡ eqb (exact f z (t.root f) i (root_in_lem r fits i)).fork.nca z
   line_test {f} z i =
-      let nca = (exact f z (t.root f) i (root_in_lem r fits i)).characteristic.nca in
-      says_eq (λ o. nca_unique tree i.in_use nca (nca_anc o)) (λ e. rw e at nca.right) (says_line r fits z i) (says_eqb (stored z (t.root f)).nca z)
+      let a = exact f z (t.root f) i (root_in_lem r fits i) in
+      let nca = a.characteristic.nca in
+      says_eq (λ o. nca_unique tree i.in_use nca (nca_anc o)) (λ e. rw e at nca.right) (says_line r fits z i) (says_eqb a.fork.nca z)
 
   pub plain_up_lem : {f : ℕ} (z : ℕ) → InTree t.layer f z → plain_up t stored (t.root f) z ≡ plain t z
   unfolding plain_up toward_root plain_step
   plain_up_lem {f} z i =
       let a = exact f z (t.root f) i (root_in_lem r fits i) in
       rw (line_test z i, a.sound)
-      (pick_twice (eqb z (t.root f)) (eqb (stored z (t.root f)).nca z) none (stored z (t.root f)).to_y (parent t.layer z) ∙
+      (pick_twice (eqb z (t.root f)) (eqb a.fork.nca z) none a.fork.to_y (parent t.layer z) ∙
       sym (plain_parent_step tree (root_in_lem r fits i).in_use i.in_use a.characteristic) ∙ sym (plain_tree r fits i))

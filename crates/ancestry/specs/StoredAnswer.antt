@@ -1,6 +1,6 @@
 -- The stored answer for two rows (01, "So a question takes three stored answers": how many are asked for is the question's matter), from the compressed
 -- step on both sides, on any layer.
-use Rattle.std.specs.Prelude.{Bool, true, false, ◌||◌, ◌&&◌, not, ℕ, ◌-◌, eqb, leb}
+use Rattle.std.specs.Prelude.{Bool, ◌||◌, ◌&&◌, ℕ, ◌-◌, Option, Some, None, option_and_then, eqb, leb}
 use Rattle.laws.specs.Test.{pick}
 use Rattle.tree_laws.specs.Ancestor.{none}
 use Rattle.tree_laws.specs.StoredFromCompressed.{path_row, higher, branch_at}
@@ -13,16 +13,12 @@ use Rattle.ancestry.specs.declared.stored.Fork.{Fork}
 use Rattle.ancestry.specs.CompressedStep.{compressed_side}
 
 -- an answer whose branches must be rows (refusal 4, "finds no row where it seeks one")
-unfoldable pub forked : ℕ → ℕ → ℕ → Bool → Fork
-forked a u v b = record { nca = a; to_x = u; to_y = v; sound = b && not (eqb u none) && not (eqb v none) }
-
--- no answer
-abbrev pub lost : Fork
-lost = record { nca = none; to_x = none; to_y = none; sound = false }
+unfoldable pub forked : ℕ → ℕ → ℕ → Option Fork
+forked a u v = pick (eqb u none || eqb v none) None (Some record { nca = a; to_x = u; to_y = v })
 
 -- a node with itself
 abbrev pub alone : ℕ → Fork
-alone x = record { nca = x; to_x = x; to_y = x; sound = true }
+alone x = record { nca = x; to_x = x; to_y = x }
 
 -- three columns of the rows tell where the sides c and k meet
 module _ (parent path depth : ℕ → ℕ) where
@@ -39,8 +35,8 @@ module _ (parent path depth : ℕ → ℕ) where
   branch_of c k s = branch_at path (meeting c k) (path_row_of s) s.below
 
   -- the answer there
-  abbrev pub met : Side → Side → Fork
-  met c k = forked (meeting c k) (branch_of c k c) (branch_of c k k) true
+  abbrev pub met : Side → Side → Option Fork
+  met c k = forked (meeting c k) (branch_of c k c) (branch_of c k k)
 
 -- x and y are rows in use and sound
 pub record Asked (n : ℕ) (row : ℕ → Row) (x y : ℕ) : Type 0 where
@@ -63,18 +59,22 @@ module _ (n : ℕ) (row : ℕ → Row) where
   is_on_row s = eqb s.below s.row || is_row n row (row s.below).parent
 
   -- the stored answer from the sides c and k
-  unfoldable pub join : Side → Side → Fork
-  join c k = pick (c.sound && k.sound && is_on_row c && is_on_row k) (met (parents row) (paths row) (depths row) c k) lost
+  unfoldable pub join : Side → Side → Option Fork
+  join c k = pick (is_on_row c && is_on_row k) (met (parents row) (paths row) (depths row) c k) None
+
+  -- the same where both sides are found
+  abbrev pub joined : Option Side → Option Side → Option Fork
+  joined c k = option_and_then (λ s. option_and_then (join s) k) c
 
 -- how far two numbers are apart
 unfoldable pub between : ℕ → ℕ → ℕ
 between a b = pick (leb a b) (b - a) (a - b)
 
 -- the stored answer for x and y by their numbers; equal numbers of unequal nodes give none (refusal 4, "a question meets equal p for unequal images")
-unfoldable pub stored_from : Layer → ℕ → ℕ → ℕ → ℕ → Fork
+unfoldable pub stored_from : Layer → ℕ → ℕ → ℕ → ℕ → Option Fork
 stored_from t m n x y =
-    pick (eqb x y) (alone x)
-    (pick (eqb m n) lost (join t.count t.row (compressed_side t (between m n) n x) (compressed_side t (between m n) m y)))
+    pick (eqb x y) (Some (alone x))
+    (pick (eqb m n) None (joined t.count t.row (compressed_side t (between m n) n x) (compressed_side t (between m n) m y)))
 
-abbrev pub stored_answer : Layer → ℕ → ℕ → Fork
+abbrev pub stored_answer : Layer → ℕ → ℕ → Option Fork
 stored_answer t x y = stored_from t (p t x) (p t y) x y

@@ -1,10 +1,8 @@
 -- A stored answer draws on few rows of any layer, and its nearest common ancestor is one of them.
-use Rattle.std.specs.Prelude.{◌≡◌, Bool, ◌&&◌, ℕ, ◌<◌, eqb}
-use Rattle.std.proofs.Math.Path.{ap}
-use Rattle.std.proofs.Common.{◌∙◌, arith}
+use Rattle.std.specs.Prelude.{◌≡◌, Bool, ℕ, ◌<◌, Option, Some, None, IfSome, eqb}
+use Rattle.std.proofs.Common.{ap, ◌∙◌, arith}
 use Rattle.std.proofs.Math.Bool.{true, false}
 use Rattle.laws.specs.Test.{pick}
-use Rattle.tree_laws.specs.Ancestor.{none}
 use Rattle.span.specs.Numbers.{p_of}
 use Rattle.span.specs.Rank.{rank_of}
 use Rattle.span.specs.RankLaws.{rank_small}
@@ -16,14 +14,14 @@ use Rattle.ancestry.specs.declared.compressed.Side.{Side}
 use Rattle.ancestry.specs.declared.stored.Fork.{Fork}
 use Rattle.ancestry.specs.ReadingLaws.{p_limit}
 use Rattle.ancestry.specs.CompressedStep.{side_from, compressed_side}
-use Rattle.ancestry.specs.StoredAnswer.{Asked, forked, lost, alone, meeting, met, parents, paths, depths, is_on_row, join, between, stored_from, stored_answer}
+use Rattle.ancestry.specs.StoredAnswer.{Asked, alone, joined, between, stored_from, stored_answer}
 use Rattle.ancestry.specs.StoredAnswerLaws.{between_limit}
-use Rattle.ancestry.specs.Agreement.{Both, side_both, side_same, meeting_kind, join_same}
+use Rattle.ancestry.specs.Agreement.{Both, side_both, side_same, joined_same, joined_kind}
 use Rattle.ancestry.specs.Every.{Every, every_left, every_right}
 use Rattle.ancestry.specs.StoredRows.{Agree, side_rows, stored_rows}
 
--- the layers agree in rows of the kind P, and none is one of them
-module _ {t u : Layer} (n : t.count ≡ u.count) (P : ℕ → Type 0) (agree : (v : ℕ) → P v → Agree t u v) (gone : P none) where
+-- the layers agree in rows of the kind P
+module _ {t u : Layer} (n : t.count ≡ u.count) (P : ℕ → Type 0) (agree : (v : ℕ) → P v → Agree t u v) where
   same : (v : ℕ) → P v → t.row v ≡ u.row v
   same v g = (agree v g).row
 
@@ -32,13 +30,13 @@ module _ {t u : Layer} (n : t.count ≡ u.count) (P : ℕ → Type 0) (agree : (
 
   -- one side
   module _ (d o z : ℕ) (i : rank_of d < entry_stride) (g : P z) (h : Every P (side_rows t (t.entry z (rank_of d)) d o z)) where
-    compressed_both : Both P (compressed_side t d o z)
+    compressed_both : IfSome (compressed_side t d o z) (Both P)
     compressed_both =
-        side_both t.count t.row u.row P same gone (t.entry z (rank_of d)) d o z g h.0 h.1.0 h.1.1.0 h.1.1.1.0
+        side_both t.count t.row u.row P same (t.entry z (rank_of d)) d o z g h.0 h.1.0 h.1.1.0 h.1.1.1.0
 
     compressed_same : compressed_side t d o z ≡ compressed_side u d o z
     compressed_same =
-        side_same t.count t.row u.row P same gone (t.entry z (rank_of d)) d o z g h.0 h.1.0 h.1.1.0 h.1.1.1.0
+        side_same t.count t.row u.row P same (t.entry z (rank_of d)) d o z g h.0 h.1.0 h.1.1.0 h.1.1.1.0
         ∙ ap (λ e. side_from t.count u.row e d o z) ((agree z g).entry (rank_of d) i)
         ∙ ap (λ m. side_from m u.row (u.entry z (rank_of d)) d o z) n
 
@@ -59,51 +57,44 @@ module _ {t u : Layer} (n : t.count ≡ u.count) (P : ℕ → Type 0) (agree : (
     unfolding apart
     right = every_right P (side_rows t (t.entry x (rank_of apart)) apart (p t y) x) (side_rows t (t.entry y (rank_of apart)) apart (p t x) y) h
 
-    cx : Side
+    cx : Option Side
     cx = compressed_side t apart (p t y) x
 
-    cy : Side
+    cy : Option Side
     cy = compressed_side t apart (p t x) y
 
-    both_x : Both P cx
+    both_x : IfSome cx (Both P)
     unfolding cx
     both_x = compressed_both apart (p t y) x small gx left
 
-    both_y : Both P cy
+    both_y : IfSome cy (Both P)
     unfolding cy
     both_y = compressed_both apart (p t x) y small gy right
 
-    sides_same : join t.count t.row cx cy ≡ join u.count u.row (compressed_side u apart (p t y) x) (compressed_side u apart (p t x) y)
+    sides_same : joined t.count t.row cx cy ≡ joined u.count u.row (compressed_side u apart (p t y) x) (compressed_side u apart (p t x) y)
     unfolding cx cy
     sides_same =
-        join_same t.count t.row u.row P same gone cx cy both_x both_y left.1.1.1.1.0 right.1.1.1.1.0
-        ∙ ap (λ m. join m u.row cx cy) n
-        ∙ ap (λ c. join u.count u.row c cy) (compressed_same apart (p t y) x small gx left)
-        ∙ ap (λ k. join u.count u.row (compressed_side u apart (p t y) x) k) (compressed_same apart (p t x) y small gy right)
+        joined_same t.count t.row u.row P same cx cy both_x both_y left.1.1.1.1.0 right.1.1.1.1.0
+        ∙ ap (λ m. joined m u.row cx cy) n
+        ∙ ap (λ c. joined u.count u.row c cy) (compressed_same apart (p t y) x small gx left)
+        ∙ ap (λ k. joined u.count u.row (compressed_side u apart (p t y) x) k) (compressed_same apart (p t x) y small gy right)
 
-    sides_kind : P (join t.count t.row cx cy).nca
-    unfolding join forked cx cy
-    sides_kind = go
-        (cx.sound && cy.sound && is_on_row t.count t.row cx && is_on_row t.count t.row cy)
-        (meeting_kind t.count t.row u.row P same gone cx cy both_x both_y left.1.1.1.1.0 right.1.1.1.1.0)
-      where
-        go : (b : Bool) → P (meeting (parents t.row) (paths t.row) (depths t.row) cx cy)
-            → P (pick b (met (parents t.row) (paths t.row) (depths t.row) cx cy) lost).nca
-        go true g = g
-        go false g = gone
+    sides_kind : IfSome (joined t.count t.row cx cy) (λ f. P f.nca)
+    unfolding cx cy
+    sides_kind = joined_kind t.count t.row u.row P same cx cy both_x both_y left.1.1.1.1.0 right.1.1.1.1.0
 
     pub stored_same : stored_answer t x y ≡ stored_answer u x y
     unfolding stored_from apart cx cy
     stored_same =
-        ap (λ f. pick (eqb x y) (alone x) (pick (eqb (p t x) (p t y)) lost f)) sides_same
+        ap (λ f. pick (eqb x y) (Some (alone x)) (pick (eqb (p t x) (p t y)) None f)) sides_same
         ∙ ap (λ m. stored_from u m (p t y) x y) (p_same x gx)
         ∙ ap (λ m. stored_from u (p u x) m x y) (p_same y gy)
 
-    pub stored_kind : P (stored_answer t x y).nca
+    pub stored_kind : IfSome (stored_answer t x y) (λ f. P f.nca)
     unfolding stored_from apart cx cy
     stored_kind = go (eqb x y) (eqb (p t x) (p t y)) _ sides_kind
       where
-        go : (b d : Bool) (f : Fork) → P f.nca → P (pick b (alone x) (pick d lost f)).nca
+        go : (b d : Bool) (f : Option Fork) → IfSome f (λ g. P g.nca) → IfSome (pick b (Some (alone x)) (pick d None f)) (λ g. P g.nca)
         go true d f g = gx
-        go false true f g = gone
+        go false true f g = tt
         go false false f g = g

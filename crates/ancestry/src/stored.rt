@@ -1,5 +1,5 @@
 // The stored answer from the compressed one: where the paths of both sides meet, and the branches from there.
-ghost use Rattle.std.specs.Prelude.{◌≡◌, true, ◌*◌, ◌≤◌, eqb, length};
+ghost use Rattle.std.specs.Prelude.{◌≡◌, ◌*◌, ◌≤◌, eqb, length};
 ghost use Rattle.span.specs.Constants.{limit};
 ghost use Rattle.tree_laws.specs.StoredFromCompressed.{path_row, higher, branch_at};
 ghost use Rattle.layer.specs.Layout.{parent_place, path_place, depth_place, entry_stride};
@@ -8,7 +8,7 @@ ghost use Rattle.layer.specs.Layer.{layer_of};
 ghost use Rattle.layer.specs.Checked.{Holds, IsRow};
 ghost use Rattle.ancestry.specs.Reading.{InFields, column_of};
 ghost use Rattle.ancestry.specs.CompressedStep.{compressed_side};
-ghost use Rattle.ancestry.specs.StoredAnswer.{Asked, forked, lost, met, is_on_row, join, between, stored_from, stored_answer};
+ghost use Rattle.ancestry.specs.StoredAnswer.{Asked, forked, met, is_on_row, join, joined, stored_from, stored_answer};
 ghost use Rattle.ancestry.specs.AnswerRows.{SideRows};
 ghost use Rattle.ancestry.specs.PathFields.{PathFields};
 
@@ -18,13 +18,12 @@ use layer::layout::{DEPTH, NONE, PARENT, PATH};
 use row_check::is_row;
 use span::rank;
 
-// A nearest common ancestor and the branches towards both nodes; sound where every row met is, and no row sought is missing.
+// A nearest common ancestor and the branches towards both nodes. There is none where a row that was met is not sound, or a row sought is missing.
 #[derive(Clone, Copy)]
 pub struct Fork {
     pub nca: u16,
     pub to_x: u16,
     pub to_y: u16,
-    pub sound: bool,
 }
 
 // The row that the path row is read off is sound; known is a sound row.
@@ -98,31 +97,17 @@ fn branch_at(fields: &[u16], a: u16, b: u16, w: u16) -> u16
 }
 
 // A fork whose branches must be rows.
-pub fn forked(nca: u16, to_x: u16, to_y: u16, sound: bool) -> Fork
-    ensures { result ≡ forked nca to_x to_y sound }
+pub fn forked(nca: u16, to_x: u16, to_y: u16) -> Option<Fork>
+    ensures { result ≡ forked nca to_x to_y }
 {
-    Fork {
-        nca,
-        to_x,
-        to_y,
-        sound: sound & (to_x != NONE) & (to_y != NONE),
+    if (to_x == NONE) | (to_y == NONE) {
+        return None;
     }
-}
-
-// No answer.
-pub fn lost() -> Fork
-    ensures { result ≡ lost }
-{
-    Fork {
-        nca: NONE,
-        to_x: NONE,
-        to_y: NONE,
-        sound: false,
-    }
+    Some(Fork { nca, to_x, to_y })
 }
 
 // The stored answer, where both path rows are read off sound rows.
-fn meet(fields: &[u16], c: Side, k: Side) -> Fork
+fn meet(fields: &[u16], c: Side, k: Side) -> Option<Fork>
     requires path_fields { PathFields fields.now c }
     requires path_fields_2 { PathFields fields.now k }
     ensures { result ≡ met (column_of fields.now parent_place) (column_of fields.now path_place) (column_of fields.now depth_place) c k }
@@ -132,36 +117,24 @@ fn meet(fields: &[u16], c: Side, k: Side) -> Fork
     let a = higher(fields, b, d);
     let to_x = branch_at(fields, a, b, c.below);
     let to_y = branch_at(fields, a, d, k.below);
-    forked(a, to_x, to_y, true)
+    forked(a, to_x, to_y)
 }
 
-// The stored answer from the compressed one, the sound sides c of x and k of y.
-fn join(fields: &[u16], numbers: &[u64], count: u16, c: Side, k: Side) -> Fork
+// The stored answer from the compressed one, the sides c of x and k of y.
+fn join(fields: &[u16], numbers: &[u64], count: u16, c: Side, k: Side) -> Option<Fork>
     requires holds { Holds count fields.now numbers.now }
-    requires sound_value { c.sound ≡ true }
-    requires sound_value_2 { k.sound ≡ true }
     requires side_rows { SideRows count (row_of fields.now numbers.now) c }
     requires side_rows_2 { SideRows count (row_of fields.now numbers.now) k }
     ensures { result ≡ join count (row_of fields.now numbers.now) c k }
 {
     let known = c.row;
     if !is_on_row(fields, numbers, count, known, c) {
-        return lost();
+        return None;
     }
     if !is_on_row(fields, numbers, count, known, k) {
-        return lost();
+        return None;
     }
     meet(fields, c, k)
-}
-
-// How far two numbers are apart.
-fn between(a: u64, b: u64) -> u64
-    ensures { result ≡ between a b }
-{
-    if a <= b {
-        return b - a;
-    }
-    a - b
 }
 
 // The stored answer for x and y, unequal nodes whose numbers px and py are d apart, by their sides.
@@ -175,24 +148,18 @@ fn sides_joined(
     py: u64,
     x: u16,
     y: u16,
-) -> Fork
+) -> Option<Fork>
     requires holds { Holds count fields.now numbers.now }
     requires entry_stride_in_bounds { count * entry_stride ≤ length ancestors.now }
     requires asked { Asked count (row_of fields.now numbers.now) x y }
     requires d_le_limit { d ≤ limit }
-    ensures { result ≡ join count (row_of fields.now numbers.now) (compressed_side (layer_of fields.now numbers.now ancestors.now count) d py x) (compressed_side (layer_of fields.now numbers.now ancestors.now count) d px y) }
+    ensures { result ≡ joined count (row_of fields.now numbers.now) (compressed_side (layer_of fields.now numbers.now ancestors.now count) d py x) (compressed_side (layer_of fields.now numbers.now ancestors.now count) d px y) }
 {
     let i = rank(d) as u16;
     let e = entry_of(ancestors, x, i);
-    let c = side_from(fields, numbers, count, x, e, d, py, x);
-    if !c.sound {
-        return lost();
-    }
+    let c = side_from(fields, numbers, count, x, e, d, py, x)?;
     let g = entry_of(ancestors, y, i);
-    let k = side_from(fields, numbers, count, c.row, g, d, px, y);
-    if !k.sound {
-        return lost();
-    }
+    let k = side_from(fields, numbers, count, c.row, g, d, px, y)?;
     join(fields, numbers, count, c, k)
 }
 
@@ -206,7 +173,7 @@ fn stored_from(
     py: u64,
     x: u16,
     y: u16,
-) -> Fork
+) -> Option<Fork>
     requires holds { Holds count fields.now numbers.now }
     requires entry_stride_in_bounds { count * entry_stride ≤ length ancestors.now }
     requires asked { Asked count (row_of fields.now numbers.now) x y }
@@ -214,17 +181,16 @@ fn stored_from(
     ensures { result ≡ stored_from (layer_of fields.now numbers.now ancestors.now count) px py x y }
 {
     if x == y {
-        return Fork {
+        return Some(Fork {
             nca: x,
             to_x: x,
             to_y: x,
-            sound: true,
-        };
+        });
     }
     if px == py {
-        return lost();
+        return None;
     }
-    let d = between(px, py);
+    let d = px.abs_diff(py);
     sides_joined(fields, numbers, ancestors, count, d, px, py, x, y)
 }
 
@@ -236,7 +202,7 @@ pub fn stored_answer(
     count: u16,
     x: u16,
     y: u16,
-) -> Fork
+) -> Option<Fork>
     requires holds { Holds count fields.now numbers.now }
     requires entry_stride_in_bounds { count * entry_stride ≤ length ancestors.now }
     requires asked { Asked count (row_of fields.now numbers.now) x y }

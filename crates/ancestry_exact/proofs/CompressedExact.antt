@@ -1,5 +1,5 @@
 -- What is proved of `CompressedExact`.
-use Rattle.std.specs.Prelude.{◌≡◌, Bool, ◌≢◌, ℕ, ◌-◌, ◌≤◌, ◌<◌, leb, ltb, eqb}
+use Rattle.std.specs.Prelude.{◌≡◌, Bool, ◌≢◌, Some, ℕ, ◌-◌, ◌≤◌, ◌<◌, leb, ltb, eqb}
 use Rattle.std.proofs.Math.Path.{refl}
 use Rattle.std.proofs.Math.Bool.{true, false}
 use Rattle.std.proofs.Common.{inl, inr, arith}
@@ -12,8 +12,8 @@ use Rattle.layer.specs.Numbered.{Numbered}
 use Rattle.layer.specs.Sound.{Link}
 use Rattle.layer.specs.Checked.{IsRow, is_row}
 use Rattle.layer.specs.CheckedLaws.{says_row}
-use Rattle.layer_laws.specs.Step.{gap, distance, side_at, side_above, step_at_entry, step_past, step_hold, branch_of}
-use Rattle.layer_laws.specs.Step.{Side as Place, compressed_side as compressed_place}
+use Rattle.layer_laws.specs.Step.{gap, distance, side_above, step_at_entry, step_past, step_hold, branch_of}
+use Rattle.layer_laws.specs.Step.{Side as Place, side_at as place_at, compressed_side as compressed_place}
 use Rattle.layer_laws.specs.Numbered.{InTree}
 use Rattle.layer_laws.specs.CompressedStep.{Met}
 use Rattle.layer_laws.proofs.CompressedStep.{tree_step}
@@ -22,7 +22,7 @@ use Rattle.ancestry.specs.declared.compressed.Side.{Side}
 use Rattle.ancestry.specs.Reading.{covers}
 use Rattle.ancestry.specs.CompressedStep.{arrive, climb, at_entry, past_entry, past_reach, past_span, side_from, compressed_side}
 use Rattle.ancestry.specs.StoredAnswer.{between}
-use Rattle.ancestry_exact.specs.CompressedExact.{SidesExact, sound_side}
+use Rattle.ancestry_exact.specs.CompressedExact.{SidesExact, side_at}
 
 -- the distance that the question takes is that of the numbering
 pub between_gap : (a b : ℕ) → between a b ≡ gap a b
@@ -43,7 +43,7 @@ reach_pick d n u v = go (says_leb n d)
 
 -- a place of the numbering's step as a side
 abbrev side_of : Place → Side
-side_of m = sound_side m.row (branch_of m)
+side_of m = side_at m.row (branch_of m)
 
 module _ {t : Layer} (r : Numbered t) where
   -- every row in use is sound
@@ -59,30 +59,30 @@ module _ {t : Layer} (r : Numbered t) where
   -- The step is the numbering's, and each row that it meets is sound
 
   climb_place : (stay : Bool) (m : Place) → m.row < t.count → (pick stay m (side_above t m.row)).row < t.count
-      → climb t.count t.row stay (side_of m) ≡ side_of (pick stay m (side_above t m.row))
+      → climb t.count t.row stay (side_of m) ≡ Some (side_of (pick stay m (side_above t m.row)))
   unfolding climb arrive branch_of
   climb_place true m l h = refl
   climb_place false m l h = rw (not_none m.row l, row_passes (upper t m.row) h)
 
-  entry_place : (e z : ℕ) → Link t.count e → (pick (eqb e none) (side_at z) (side_above t e)).row < t.count
-      → past_entry t.count t.row e z ≡ side_of (pick (eqb e none) (side_at z) (side_above t e))
+  entry_place : (e z : ℕ) → Link t.count e → (pick (eqb e none) (place_at z) (side_above t e)).row < t.count
+      → past_entry t.count t.row e z ≡ Some (side_of (pick (eqb e none) (place_at z) (side_above t e)))
   unfolding past_entry at_entry climb arrive branch_of
   entry_place e z (inl i) h = rw (says_true (says_eqb e none) i)
   entry_place e z (inr i) h =
       let o : upper t e < t.count = rw (not_none e i) at h in
       rw (not_none e i, row_passes e i, row_passes (upper t e) o, not_none e i)
 
-  past_place : (d : ℕ) (m : Place) → m.row < t.count → (step_past t d m).row < t.count → past_reach t.count t.row d (side_of m) ≡ side_of (step_past t d m)
+  past_place : (d : ℕ) (m : Place) → m.row < t.count → (step_past t d m).row < t.count → past_reach t.count t.row d (side_of m) ≡ Some (side_of (step_past t d m))
   unfolding step_past past_reach
   past_place d m l h =
       let e = reach_pick d (reach t m.row) (side_above t m.row) m in
       rw e (climb_place (ltb d (reach t m.row)) m l (rw e at h))
 
-  hold_place : (n : ℕ) (m : Place) → m.row < t.count → (step_hold t n m).row < t.count → past_span t.count t.row n (side_of m) ≡ side_of (step_hold t n m)
+  hold_place : (n : ℕ) (m : Place) → m.row < t.count → (step_hold t n m).row < t.count → past_span t.count t.row n (side_of m) ≡ Some (side_of (step_hold t n m))
   unfolding step_hold past_span covers
   hold_place n m l h = climb_place (covers (t.row m.row) n) m l h
 
-  side_place : {d i n z : ℕ} → Met t d i n z → side_from t.count t.row (t.entry z i) d n z ≡ side_of (compressed_place t d i n z)
+  side_place : {d i n z : ℕ} → Met t d i n z → side_from t.count t.row (t.entry z i) d n z ≡ Some (side_of (compressed_place t d i n z))
   unfolding compressed_place step_at_entry side_from
   side_place {d} {i} {n} {z} m = rw (
     entry_place (t.entry z i) z m.entry m.at_entry,

@@ -13,15 +13,15 @@ use Rattle.layer.specs.Numbered.{Numbered}
 use Rattle.layer.specs.CheckedLaws.{says_row}
 use Rattle.layer_laws.proofs.Numbered.{stored_tree, compressed_tree, uppers, compressed_kindred}
 use Rattle.layer_laws.proofs.Nesting.{p_injective}
-use Rattle.ancestry.specs.StoredAnswer.{is_on_row, meeting, branch_of, join, stored_from, stored_answer}
+use Rattle.ancestry.specs.StoredAnswer.{alone, is_on_row, meeting, branch_of, join, stored_from, stored_answer}
 use Rattle.ancestry_exact.specs.ForkExact.{ForkExact, StoredExact}
 use Rattle.ancestry_exact.proofs.ForkExact.{forked_exact}
-use Rattle.ancestry_exact.specs.CompressedExact.{sound_side}
+use Rattle.ancestry_exact.specs.CompressedExact.{side_at}
 use Rattle.ancestry_exact.proofs.CompressedExact.{row_sound, compressed_exact}
 
 module _ {t : Layer} (r : Numbered t) where
   -- the row that a path row is read off is sound
-  side_on_row : {a x w : ℕ} → x < t.count → Branch (upper t) a x w → is_on_row t.count t.row (sound_side a w) ≡ true
+  side_on_row : {a x w : ℕ} → x < t.count → Branch (upper t) a x w → is_on_row t.count t.row (side_at a w) ≡ true
   unfolding is_on_row
   side_on_row {a} l (itself e) = rw (says_true (says_eqb a a) refl)
   side_on_row {a} {x} {w} l (child h e s) =
@@ -31,7 +31,7 @@ module _ {t : Layer} (r : Numbered t) where
 
   -- both sides meet at the stored nearest common ancestor
   join_exact : {x y a u v : ℕ} → x < t.count → y < t.count → Characteristic (upper t) x y a u v
-      → ForkExact (parent t) x y (join t.count t.row (sound_side a u) (sound_side a v))
+      → ForkExact (parent t) x y (join t.count t.row (side_at a u) (side_at a v))
   unfolding join meeting branch_of stored_nca stored_to_x stored_to_y
   join_exact l m c = rw (side_on_row l c.toward_x, side_on_row m c.toward_y)
       (forked_exact (stored_tree r) l m (stored_characteristic (stored_tree r) (uppers r) l m c))
@@ -41,6 +41,7 @@ module _ {t : Layer} (r : Numbered t) where
   unfolding stored_from
   stored_exact f x y i j = elim (ℕ_discrete x y) [
     | yes e ↦ rw (says_true (says_eqb x y) e) record {
+      fork = alone x;
       sound = refl;
       characteristic = record {
         nca = record { left = here; right = rw e here; deepest = λ b s _. s };

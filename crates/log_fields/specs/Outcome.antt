@@ -1,6 +1,5 @@
 -- What reading a field gives, in document 01's numbers, and which of them each case of `Field` stands for.
-use Rattle.std.specs.Prelude.{List, [], ◌∷◌, ℕ}
-use Rattle.laws.specs.Test.{bit}
+use Rattle.std.specs.Prelude.{List, [], ◌∷◌, Option, Some, None, ℕ}
 use Rattle.log_fields.specs.declared.Field.{Field}
 use Rattle.log_fields.specs.declared.Field.TheVariants.{End, BadTag, BadLength, Truncated, DirtyFiller, Leaf, Root, Question, Alike, Filler}
 
@@ -10,6 +9,11 @@ pub data Outcome : Type 0 where
   refusal : ℕ → ℕ → Outcome
   field : ℕ → List ℕ → ℕ → Outcome
 
+-- what a root tells: 1 and the opening that it names, or 0 and 0
+abbrev pub root_told : Option ℕ → List ℕ
+root_told None = 0 ∷ 0 ∷ []
+root_told (Some opening) = 1 ∷ opening ∷ []
+
 -- the numbers and values of each case
 abbrev pub outcome_of : Field → Outcome
 outcome_of End = end
@@ -18,7 +22,7 @@ outcome_of (BadLength next) = refusal 7 next
 outcome_of (Truncated next) = refusal 8 next
 outcome_of (DirtyFiller next) = refusal 9 next
 outcome_of (Leaf parent label face next) = field 1 (parent ∷ label ∷ face ∷ []) next
-outcome_of (Root named opening next) = field 2 (bit named ∷ opening ∷ []) next
+outcome_of (Root opening next) = field 2 (root_told opening) next
 outcome_of (Question x y next) = field 3 (x ∷ y ∷ []) next
 outcome_of (Alike x y next) = field 4 (x ∷ y ∷ []) next
 outcome_of (Filler next) = field 9 [] next

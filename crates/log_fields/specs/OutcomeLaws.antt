@@ -1,15 +1,18 @@
 -- The numbers and values of an outcome tell its case: a promise on `outcome_of` says which case is answered, and with what.
-use Rattle.std.specs.Prelude.{◌≡◌, refl, Bool, true, false, get_or, eqb}
+use Rattle.std.specs.Prelude.{◌≡◌, refl, List, Option, Some, None, ℕ, get_or, eqb}
 use Rattle.std.proofs.Common.{sym, ap, ◌∙◌}
-use Rattle.laws.specs.Test.{pick, bit}
+use Rattle.laws.specs.Test.{pick}
 use Rattle.log_fields.specs.declared.Field.{Field}
 use Rattle.log_fields.specs.declared.Field.TheVariants.{End, BadTag, BadLength, Truncated, DirtyFiller, Leaf, Root, Question, Alike, Filler}
-use Rattle.log_fields.specs.Outcome.{Outcome, end, refusal, field, outcome_of}
+use Rattle.log_fields.specs.Outcome.{Outcome, end, refusal, field, root_told, outcome_of}
 
--- a root's first value tells whether it names an opening
-pub named_told : (named : Bool) → eqb (bit named) 1 ≡ named
-named_told true = refl
-named_told false = refl
+-- what a root tells says which opening it names, or none
+abbrev pub opening_in : List ℕ → Option ℕ
+opening_in v = pick (eqb (get_or v 0 0) 1) (Some (get_or v 1 0)) None
+
+pub opening_told : (opening : Option ℕ) → opening_in (root_told opening) ≡ opening
+opening_told None = refl
+opening_told (Some opening) = refl
 
 -- the case that an outcome stands for
 case_of : Outcome → Field
@@ -17,7 +20,7 @@ case_of end = End
 case_of (refusal n next) = pick (eqb n 6) (BadTag next) (pick (eqb n 7) (BadLength next) (pick (eqb n 8) (Truncated next) (DirtyFiller next)))
 case_of (field kind v next) =
     pick (eqb kind 1) (Leaf (get_or v 0 0) (get_or v 1 0) (get_or v 2 0) next)
-    (pick (eqb kind 2) (Root (eqb (get_or v 0 0) 1) (get_or v 1 0) next)
+    (pick (eqb kind 2) (Root (opening_in v) next)
     (pick (eqb kind 3) (Question (get_or v 0 0) (get_or v 1 0) next)
     (pick (eqb kind 4) (Alike (get_or v 0 0) (get_or v 1 0) next)
     (Filler next))))
@@ -30,7 +33,7 @@ case_outcome (BadLength next) = refl
 case_outcome (Truncated next) = refl
 case_outcome (DirtyFiller next) = refl
 case_outcome (Leaf parent label face next) = refl
-case_outcome (Root named opening next) = rw (named_told named)
+case_outcome (Root opening next) = rw (opening_told opening)
 case_outcome (Question x y next) = refl
 case_outcome (Alike x y next) = refl
 case_outcome (Filler next) = refl

@@ -28,10 +28,9 @@ pub enum Field {
         face: u16,
         next: usize,
     },
-    // Whether it names an opening, and the opening, 0 where it names none.
+    // The opening, where it names one.
     Root {
-        named: bool,
-        opening: u16,
+        opening: Option<u16>,
         next: usize,
     },
     Question {
@@ -60,103 +59,56 @@ const FACED_LEAF: u8 = 5;
 
 const FILLER: u8 = 9;
 
-// A leaf that names no face: it is a front.
-fn leaf_field(body: &[u8], next: usize) -> Field
-    ensures { outcome_of result ≡ whole_field 1 body.now next }
-{
-    if body.len() != 4 {
-        return Field::BadLength(next);
-    }
-    Field::Leaf {
-        parent: number_at(body, 0),
-        label: number_at(body, 2),
-        face: 0,
-        next,
-    }
-}
-
-// A leaf that names its face, in the last byte; any byte is told, and the call for the leaf refuses an odd face.
-fn faced_leaf_field(body: &[u8], next: usize) -> Field
-    ensures { outcome_of result ≡ whole_field 5 body.now next }
-{
-    if body.len() != 5 {
-        return Field::BadLength(next);
-    }
-    Field::Leaf {
-        parent: number_at(body, 0),
-        label: number_at(body, 2),
-        face: body[4] as u16,
-        next,
-    }
-}
-
-// A root: no body names no opening, and a body of one number is the opening that it names.
-fn root_field(body: &[u8], next: usize) -> Field
-    ensures { outcome_of result ≡ whole_field 2 body.now next }
-{
-    if body.len() == 0 {
-        return Field::Root {
-            named: false,
-            opening: 0,
-            next,
-        };
-    }
-    if body.len() != 2 {
-        return Field::BadLength(next);
-    }
-    Field::Root {
-        named: true,
-        opening: number_at(body, 0),
-        next,
-    }
-}
-
-// What a whole field is, by its tag and body; `next` is the place past it.
+// What a whole field is, by its tag and its body's length; `next` is the place past it. A leaf that names no face is a front, and any byte is told as a face:
+// the call for the leaf refuses an odd one.
+#[tactic(auto, using(std::proofs::lemmas::Bool::Decides::nat_tests), unfolding(crate::specs::Field::whole_field))]
 fn whole_field(tag: u8, body: &[u8], next: usize) -> Field
     ensures { outcome_of result ≡ whole_field tag body.now next }
 {
-    match tag {
-        LEAF => leaf_field(body, next),
-        ROOT => root_field(body, next),
-        QUESTION => {
-            if body.len() != 4 {
-                return Field::BadLength(next);
-            }
-            Field::Question {
-                x: number_at(body, 0),
-                y: number_at(body, 2),
-                next,
-            }
-        }
-        ALIKE => {
-            if body.len() != 4 {
-                return Field::BadLength(next);
-            }
-            Field::Alike {
-                x: number_at(body, 0),
-                y: number_at(body, 2),
-                next,
-            }
-        }
-        FACED_LEAF => faced_leaf_field(body, next),
-        FILLER => {
-            if !all_zero(body) {
-                return Field::DirtyFiller(next);
-            }
-            Field::Filler(next)
-        }
+    match (tag, body.len()) {
+        (LEAF, 4) => Field::Leaf {
+            parent: number_at(body, 0),
+            label: number_at(body, 2),
+            face: 0,
+            next,
+        },
+        (FACED_LEAF, 5) => Field::Leaf {
+            parent: number_at(body, 0),
+            label: number_at(body, 2),
+            face: u16::from(body[4]),
+            next,
+        },
+        (ROOT, 0) => Field::Root {
+            opening: None,
+            next,
+        },
+        (ROOT, 2) => Field::Root {
+            opening: Some(number_at(body, 0)),
+            next,
+        },
+        (QUESTION, 4) => Field::Question {
+            x: number_at(body, 0),
+            y: number_at(body, 2),
+            next,
+        },
+        (ALIKE, 4) => Field::Alike {
+            x: number_at(body, 0),
+            y: number_at(body, 2),
+            next,
+        },
+        (LEAF | FACED_LEAF | ROOT | QUESTION | ALIKE, _) => Field::BadLength(next),
+        (FILLER, _) if all_zero(body) => Field::Filler(next),
+        (FILLER, _) => Field::DirtyFiller(next),
         _ => Field::BadTag(next),
     }
 }
 
 // The place past the field at a place, or the same place where the log ends there or the field is cut short.
+#[tactic(auto, using(crate::specs::FieldLaws::next_cut, crate::specs::FieldLaws::next_whole))]
 pub fn next_at(log: &[u8], at: usize) -> usize
     ensures { result ≡ next_at log.now at }
 {
-    if log.len() < at {
-        return at;
-    }
-    let left = log.len() - at;
+    let left = log.len().saturating_sub(at);
     if left < 3 {
         return at;
     }
@@ -179,6 +131,7 @@ pub fn body_at(log: &[u8], at: usize) -> &[u8]
 }
 
 // The field at a place, looking for refusals 8, 6, 7 and 9 in this order.
+#[tactic(auto, using(crate::specs::FieldLaws::field_end, crate::specs::FieldLaws::field_stays, crate::specs::FieldLaws::field_moves))]
 pub fn field_at(log: &[u8], at: usize) -> Field
     ensures { outcome_of result ≡ field_at log.now at }
 {

@@ -1,5 +1,5 @@
 -- A question draws on few rows of any table, where its stored answers do.
-use Rattle.std.specs.Prelude.{◌≡◌, ◌&&◌, Err, List, [], ℕ, ◌≤◌, ◌<◌, ltb, pos, length, get_or}
+use Rattle.std.specs.Prelude.{◌≡◌, ◌||◌, ◌&&◌, Option, Some, None, IfSome, option_and_then, Err, List, [], ℕ, eqb, ◌≤◌, ◌<◌, ltb, pos, length, get_or}
 use Rattle.std.proofs.Math.Path.{refl, ap}
 use Rattle.std.proofs.Common.{sym, ◌∙◌, arith}
 use Rattle.std.proofs.Math.Bool.{Bool, true, false}
@@ -16,13 +16,13 @@ use Rattle.table.specs.declared.refusal.Refusal.TheVariants.{UnknownNode, Corrup
 use Rattle.table.specs.declared.state.State.{State}
 use Rattle.table.specs.Layout.{label_place, root_place}
 use Rattle.table.specs.State.{is_standing}
-use Rattle.table.specs.Level.{is_level}
 use Rattle.table.specs.Parts.{Parts, level_at}
 use Rattle.table.specs.Capacity.{Fits}
 use Rattle.table.proofs.CapacityLaws.{fits_told}
 use Rattle.table.specs.Table.{Table, table_of}
 use Rattle.ancestry.specs.declared.stored.Fork.{Fork}
-use Rattle.ancestry.specs.StoredAnswer.{Asked, lost, stored_answer, forked}
+use Rattle.ancestry.specs.StoredAnswer.{Asked, stored_answer, forked}
+use Rattle.ancestry.specs.AnswerRows.{if_then}
 use Rattle.ancestry.specs.Agreement.{is_row_same}
 use Rattle.ancestry.specs.Every.{Every, every, every_left, every_right}
 use Rattle.ancestry.specs.StoredRows.{stored_rows}
@@ -38,7 +38,8 @@ use Rattle.query.specs.Sought.{sought_in, on_sought}
 use Rattle.query.specs.SoughtLaws.{sought_at, sought_same}
 use Rattle.query.specs.Asked.{asked}
 use Rattle.query.specs.Question.{values_of, is_served, served, plain_fork, question}
-use Rattle.query.specs.FewRows.{SameRow, DrawsOn, onward, lower_rows, tree_rows, rows_read, most}
+use Rattle.query.specs.QuestionLaws.{served_not_x, served_not_y}
+use Rattle.query.specs.FewRows.{fork_or_none, SameRow, DrawsOn, onward, lower_rows, tree_rows, rows_read, most}
 
 -- the tables agree in row v
 record Agree (t u : Table) (v : ℕ) : Type 0 where
@@ -48,11 +49,12 @@ record Agree (t u : Table) (v : ℕ) : Type 0 where
   root : t.root v ≡ u.root v
 
 -- tables that agree in the rows drawn on, and in those of x and y, have one stored answer, and agree in the row that it names
-record Drawn (t u : Table) (here there : ℕ → ℕ → Fork) (drawn : ℕ → ℕ → List ℕ) : Type 0 where
+record Drawn (t u : Table) (here there : ℕ → ℕ → Option Fork) (drawn : ℕ → ℕ → List ℕ) : Type 0 where
   same : (x y : ℕ) → Asked t.layer.count t.layer.row x y → Agree t u x → Agree t u y → Every (Agree t u) (drawn x y) → here x y ≡ there x y
-  nca : (x y : ℕ) → Asked t.layer.count t.layer.row x y → Agree t u x → Agree t u y → Every (Agree t u) (drawn x y) → Agree t u (here x y).nca
+  nca : (x y : ℕ) → Asked t.layer.count t.layer.row x y → Agree t u x → Agree t u y → Every (Agree t u) (drawn x y)
+      → IfSome (here x y) (λ f. Agree t u f.nca)
 
-module _ {t u : Table} (n : t.layer.count ≡ u.layer.count) (gone : Agree t u none) where
+module _ {t u : Table} (n : t.layer.count ≡ u.layer.count) where
   row_same : {v : ℕ} → Agree t u v → is_row t.layer.count t.layer.row v ≡ is_row u.layer.count u.layer.row v
   row_same {v} g = is_row_same t.layer.count t.layer.row u.layer.row g.stored.row ∙ ap (λ m. is_row m u.layer.row v) n
 
@@ -71,25 +73,51 @@ module _ {t u : Table} (n : t.layer.count ≡ u.layer.count) (gone : Agree t u n
   unfolding lower_y
   lower_y_same f g = rw (ap (λ (r : Row). r.parent) g.stored.row)
 
+  -- a fork lowered, where there is one
+  forked_agree : (a v w : ℕ) → Agree t u a → IfSome (forked a v w) (λ g. Agree t u g.nca)
+  unfolding forked
+  forked_agree a v w i = go (eqb v none || eqb w none)
+    where
+      go : (b : Bool) → IfSome {T = Fork} (pick b None (Some record { nca = a; to_x = v; to_y = w })) (λ g. Agree t u g.nca)
+      go true = tt
+      go false = i
+
+  lower_x_agree : (f : Fork) → Agree t u f.nca → IfSome (lower_x (parent t.layer) f) (λ g. Agree t u g.nca)
+  unfolding lower_x
+  lower_x_agree f i = forked_agree f.nca f.to_x (parent t.layer f.nca) i
+
+  lower_y_agree : (f : Fork) → Agree t u f.nca → IfSome (lower_y (parent t.layer) f) (λ g. Agree t u g.nca)
+  unfolding lower_y
+  lower_y_agree f i = forked_agree f.nca (parent t.layer f.nca) f.to_x i
+
+  lower_agree : (lower : Fork → Option Fork) (o : Option Fork) → ((f : Fork) → Agree t u f.nca → IfSome (lower f) (λ g. Agree t u g.nca))
+      → IfSome o (λ f. Agree t u f.nca) → IfSome (option_and_then lower o) (λ g. Agree t u g.nca)
+  lower_agree lower o k h = if_then lower o (λ f. Agree t u f.nca) (λ f. Agree t u f.nca) h k
+
+  lower_same : (lower lower_there : Fork → Option Fork) (o : Option Fork) → ((f : Fork) → Agree t u f.nca → lower f ≡ lower_there f)
+      → IfSome o (λ f. Agree t u f.nca) → option_and_then lower o ≡ option_and_then lower_there o
+  lower_same lower lower_there None k h = refl
+  lower_same lower lower_there (Some f) k h = k f h
+
   values_same : (x y : ℕ) (f : Fork) → Agree t u x → Agree t u y → Agree t u f.nca → values_of t x y f ≡ values_of u x y f
   values_same x y f i j k = rw (i.level, j.level, k.level, k.label)
 
   -- a plain answer, by stored answers that draw on these rows
-  module _ {here there : ℕ → ℕ → Fork} {drawn : ℕ → ℕ → List ℕ} (d : Drawn t u here there drawn) where
+  module _ {here there : ℕ → ℕ → Option Fork} {drawn : ℕ → ℕ → List ℕ} (d : Drawn t u here there drawn) where
     -- where the line goes on below the stored answer f
     module _ (r x y : ℕ) (k : Asked t.layer.count t.layer.row x y) (gx : Agree t u x) (gy : Agree t u y) (gr : Agree t u r)
         (f : Fork) (ga : Agree t u f.nca) (gu : Agree t u f.to_x) (gv : Agree t u f.to_y)
         (h : Every (Agree t u) (drawn (onward t here drawn x y f) r)) where
-      tested : Table → (ℕ → ℕ → Fork) → Bool → Bool → Fork
-      tested s stored a b = pick a (lower_x (parent s.layer) (stored x r)) (pick b (lower_y (parent s.layer) (stored y r)) f)
+      tested : Table → (ℕ → ℕ → Option Fork) → Bool → Bool → Option Fork
+      tested s stored a b = pick a (option_and_then (lower_x (parent s.layer)) (stored x r)) (pick b (option_and_then (lower_y (parent s.layer)) (stored y r)) (Some f))
 
-      lowered_agree : IsRow t.layer.count t.layer.row r → Agree t u (lowered t here r x y f).nca
-      unfolding lowered lower_x lower_y forked tested
+      lowered_agree : IsRow t.layer.count t.layer.row r → IfSome (lowered t here r x y f) (λ g. Agree t u g.nca)
+      unfolding lowered tested
       lowered_agree hr = go (on_line_but t f.nca f.to_x) (on_line_but t f.nca f.to_y) h
         where
-          go : (a b : Bool) → Every (Agree t u) (drawn (pick a x y) r) → Agree t u (tested t here a b).nca
-          go true b i = d.nca x r record { left = k.left; right = hr } gx gr i
-          go false true i = d.nca y r record { left = k.right; right = hr } gy gr i
+          go : (a b : Bool) → Every (Agree t u) (drawn (pick a x y) r) → IfSome (tested t here a b) (λ g. Agree t u g.nca)
+          go true b i = lower_agree (lower_x (parent t.layer)) (here x r) lower_x_agree (d.nca x r record { left = k.left; right = hr } gx gr i)
+          go false true i = lower_agree (lower_y (parent t.layer)) (here y r) lower_y_agree (d.nca y r record { left = k.right; right = hr } gy gr i)
           go false false i = ga
 
       lowered_same : IsRow t.layer.count t.layer.row r → lowered t here r x y f ≡ lowered u there r x y f
@@ -102,19 +130,22 @@ module _ {t u : Table} (n : t.layer.count ≡ u.layer.count) (gone : Agree t u n
           go : (a b : Bool) → Every (Agree t u) (drawn (pick a x y) r) → tested t here a b ≡ tested u there a b
           go true b i =
               let q : Asked t.layer.count t.layer.row x r = record { left = k.left; right = hr } in
-              lower_x_same _ (d.nca x r q gx gr i) ∙ ap (lower_x (parent u.layer)) (d.same x r q gx gr i)
+              lower_same (lower_x (parent t.layer)) (lower_x (parent u.layer)) (here x r) lower_x_same (d.nca x r q gx gr i)
+              ∙ ap (option_and_then (lower_x (parent u.layer))) (d.same x r q gx gr i)
           go false true i =
               let q : Asked t.layer.count t.layer.row y r = record { left = k.right; right = hr } in
-              lower_y_same _ (d.nca y r q gy gr i) ∙ ap (lower_y (parent u.layer)) (d.same y r q gy gr i)
+              lower_same (lower_y (parent t.layer)) (lower_y (parent u.layer)) (here y r) lower_y_same (d.nca y r q gy gr i)
+              ∙ ap (option_and_then (lower_y (parent u.layer))) (d.same y r q gy gr i)
           go false false i = refl
 
-      from_agree : Agree t u (plain_from t here r x y f).nca
+      from_agree : IfSome (plain_from t here r x y f) (λ g. Agree t u g.nca)
       unfolding plain_from
-      from_agree = go (f.sound && on_line_but t r f.nca) (is_read t.layer.count t.layer.row t.level r f) refl
+      from_agree = go (on_line_but t r f.nca) (is_read t.layer.count t.layer.row t.level r f) refl
         where
-          go : (a b : Bool) → is_read t.layer.count t.layer.row t.level r f ≡ b → Agree t u (pick a (pick b (lowered t here r x y f) lost) f).nca
+          go : (a b : Bool) → is_read t.layer.count t.layer.row t.level r f ≡ b
+              → IfSome (pick a (pick b (lowered t here r x y f) None) (Some f)) (λ g. Agree t u g.nca)
           go true true e = lowered_agree (is_read_lem t.layer.count t.layer.row t.level r f e).root
-          go true false e = gone
+          go true false e = tt
           go false b e = ga
 
       read_same : is_read t.layer.count t.layer.row t.level r f ≡ is_read u.layer.count u.layer.row u.level r f
@@ -124,63 +155,65 @@ module _ {t u : Table} (n : t.layer.count ≡ u.layer.count) (gone : Agree t u n
       from_same : plain_from t here r x y f ≡ plain_from u there r x y f
       unfolding plain_from
       from_same =
-          ap (λ g. pick (f.sound && on_line_but t r f.nca) g f) (go (is_read t.layer.count t.layer.row t.level r f) refl)
-          ∙ ap (λ b. pick (f.sound && on_line_but t r f.nca) (pick b (lowered u there r x y f) lost) f) read_same
-          ∙ ap (λ b. pick (f.sound && b) (pick (is_read u.layer.count u.layer.row u.level r f) (lowered u there r x y f) lost) f) (line_same r ga)
+          ap (λ g. pick (on_line_but t r f.nca) g (Some f)) (go (is_read t.layer.count t.layer.row t.level r f) refl)
+          ∙ ap (λ b. pick (on_line_but t r f.nca) (pick b (lowered u there r x y f) None) (Some f)) read_same
+          ∙ ap (λ b. pick b (pick (is_read u.layer.count u.layer.row u.level r f) (lowered u there r x y f) None) (Some f)) (line_same r ga)
         where
-          go : (b : Bool) → is_read t.layer.count t.layer.row t.level r f ≡ b → pick b (lowered t here r x y f) lost ≡ pick b (lowered u there r x y f) lost
+          go : (b : Bool) → is_read t.layer.count t.layer.row t.level r f ≡ b → pick b (lowered t here r x y f) None ≡ pick b (lowered u there r x y f) None
           go true e = lowered_same (is_read_lem t.layer.count t.layer.row t.level r f e).root
           go false e = refl
 
     module _ (r x y : ℕ) (h : Every (Agree t u) (tree_rows t here drawn r x y)) where
       xy : Every (Agree t u) (drawn x y)
-      xy = every_left (Agree t u) (drawn x y) (lower_rows t here drawn r x y (here x y)) h.1.1.1
+      xy = every_left (Agree t u) (drawn x y) (lower_rows t here drawn r x y (fork_or_none (here x y))) h.1.1.1
 
-      lower : Every (Agree t u) (lower_rows t here drawn r x y (here x y))
-      lower = every_right (Agree t u) (drawn x y) (lower_rows t here drawn r x y (here x y)) h.1.1.1
+      lower : Every (Agree t u) (lower_rows t here drawn r x y (fork_or_none (here x y)))
+      lower = every_right (Agree t u) (drawn x y) (lower_rows t here drawn r x y (fork_or_none (here x y))) h.1.1.1
 
       module _ (k : Asked t.layer.count t.layer.row x y) where
-        top : Agree t u (here x y).nca
+        top : IfSome (here x y) (λ f. Agree t u f.nca)
         top = d.nca x y k h.0 h.1.0 xy
 
-        plain_agree : Agree t u (plain_answer t here r x y).nca
+        plain_agree : IfSome (plain_answer t here r x y) (λ f. Agree t u f.nca)
         unfolding plain_answer
-        plain_agree = from_agree r x y k h.0 h.1.0 h.1.1.0 (here x y) top lower.0 lower.1.0 lower.1.1
+        plain_agree = go (here x y) top lower
+          where
+            go : (o : Option Fork) → IfSome o (λ f. Agree t u f.nca) → Every (Agree t u) (lower_rows t here drawn r x y (fork_or_none o))
+                → IfSome (option_and_then (plain_from t here r x y) o) (λ f. Agree t u f.nca)
+            go None i e = tt
+            go (Some f) i e = from_agree r x y k h.0 h.1.0 h.1.1.0 f i e.0 e.1.0 e.1.1
 
         plain_same_lem : plain_answer t here r x y ≡ plain_answer u there r x y
         unfolding plain_answer
-        plain_same_lem =
-            from_same r x y k h.0 h.1.0 h.1.1.0 (here x y) top lower.0 lower.1.0 lower.1.1
-            ∙ ap (plain_from u there r x y) (d.same x y k h.0 h.1.0 xy)
+        plain_same_lem = go (here x y) top lower ∙ ap (option_and_then (plain_from u there r x y)) (d.same x y k h.0 h.1.0 xy)
+          where
+            go : (o : Option Fork) → IfSome o (λ f. Agree t u f.nca) → Every (Agree t u) (lower_rows t here drawn r x y (fork_or_none o))
+                → option_and_then (plain_from t here r x y) o ≡ option_and_then (plain_from u there r x y) o
+            go None i e = refl
+            go (Some f) i e = from_same r x y k h.0 h.1.0 h.1.1.0 f i e.0 e.1.0 e.1.1
 
       -- the outcome in the tree of this root
-      served_same : served t x y (plain_answer t here r x y) ≡ served u x y (plain_answer u there r x y)
+      served_here : (o : Option Fork) → IfSome o (λ f. Agree t u f.nca) → served t x y o ≡ served u x y o
       unfolding served is_served
+      served_here None i = refl
+      served_here (Some f) i = rw (values_same x y f h.0 h.1.0 i, node_same h.0, node_same h.1.0, i.level)
+
+      served_same : served t x y (plain_answer t here r x y) ≡ served u x y (plain_answer u there r x y)
       served_same = go (is_node t.layer.count t.layer.row t.level x) (is_node t.layer.count t.layer.row t.level y) refl refl
         where
-          by : Table → Fork → Bool → Bool → Outcome
-          by s f a b = pick (a && b && f.sound && is_level (s.level f.nca)) (values_of s x y f) (refused Corrupt)
-
-          back : {a b : Bool} → is_node t.layer.count t.layer.row t.level x ≡ a → is_node t.layer.count t.layer.row t.level y ≡ b → by u (plain_answer u there r x y) a b ≡ by u (plain_answer u there r x y) (is_node u.layer.count u.layer.row u.level x) (is_node u.layer.count u.layer.row u.level y)
-          back i j = rw (← i, ← j, node_same h.0, node_same h.1.0)
-
           go : (a b : Bool) → is_node t.layer.count t.layer.row t.level x ≡ a → is_node t.layer.count t.layer.row t.level y ≡ b
-              → by t (plain_answer t here r x y) a b ≡ by u (plain_answer u there r x y) (is_node u.layer.count u.layer.row u.level x) (is_node u.layer.count u.layer.row u.level y)
-          go false b i j = back i j
-          go true false i j = back i j
+              → served t x y (plain_answer t here r x y) ≡ served u x y (plain_answer u there r x y)
+          go false b i j = sym (served_not_x t x y _ i) ∙ served_not_x u x y _ (sym (node_same h.0) ∙ i)
+          go true false i j = sym (served_not_y t x y i _ j) ∙ served_not_y u x y (sym (node_same h.0) ∙ i) _ (sym (node_same h.1.0) ∙ j)
           go true true i j =
               let q : Asked t.layer.count t.layer.row x y = record { left = (is_node_lem t.layer.count t.layer.row t.level x i).row; right = (is_node_lem t.layer.count t.layer.row t.level y j).row } in
-              ap (λ o. pick ((plain_answer t here r x y).sound && is_level (t.level (plain_answer t here r x y).nca)) o (refused Corrupt))
-              (values_same x y (plain_answer t here r x y) h.0 h.1.0 (plain_agree q))
-              ∙ ap (λ l. pick ((plain_answer t here r x y).sound && is_level l) (values_of u x y (plain_answer t here r x y)) (refused Corrupt)) (plain_agree q).level
-              ∙ ap (λ f. by u f true true) (plain_same_lem q)
-              ∙ back i j
+              served_here (plain_answer t here r x y) (plain_agree q) ∙ ap (served u x y) (plain_same_lem q)
 
 -- the stored answer of a layer draws on ten rows
-stored_drawn : {t u : Table} → t.layer.count ≡ u.layer.count → Agree t u none → Drawn t u (stored_answer t.layer) (stored_answer u.layer) (stored_rows t.layer)
-stored_drawn {t} {u} n gone = record {
-  same = λ x y k i j h. stored_same n (Agree t u) (λ v g. g.stored) gone x y k i j h;
-  nca = λ x y k i j h. stored_kind n (Agree t u) (λ v g. g.stored) gone x y k i j h;
+stored_drawn : {t u : Table} → t.layer.count ≡ u.layer.count → Drawn t u (stored_answer t.layer) (stored_answer u.layer) (stored_rows t.layer)
+stored_drawn {t} {u} n = record {
+  same = λ x y k i j h. stored_same n (Agree t u) (λ v g. g.stored) x y k i j h;
+  nca = λ x y k i j h. stored_kind n (Agree t u) (λ v g. g.stored) x y k i j h;
 }
 
 -- past the capacity all parts are alike
@@ -249,12 +282,9 @@ decided {c} a b f g s x y h = rw (fits_told f, fits_told g) (go (ltb x s.count &
     root : ℕ
     root = field_at a.fields (entry_at a.ancestors x tree_place) root_place
 
-    gone : Agree (table_of a s.count) (table_of b s.count) none
-    gone = agreed (same_past {v = none} a b f g (omega (arith, f.most)))
-
     outcome : on_sought (sought_in a.fields a.ancestors s.count x y) here refused ≡ on_sought (sought_in b.fields b.ancestors s.count x y) there refused
     outcome =
-        sought_at a.fields a.ancestors s.count x y here there refused (served_same refl gone (stored_drawn refl gone) root x y h.1)
+        sought_at a.fields a.ancestors s.count x y here there refused (served_same refl (stored_drawn refl) root x y h.1)
         ∙ ap (λ k. on_sought k there refused)
         (sought_same a.fields b.fields a.ancestors b.ancestors s.count x y (h.1.0.stored.entry tree_place (omega arith)) (h.1.1.0.stored.entry tree_place (omega arith)) h.0.root)
 

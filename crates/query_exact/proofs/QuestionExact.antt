@@ -1,5 +1,5 @@
 -- The outcome of a question is the answer on the plain trees, or refusal 12.
-use Rattle.std.specs.Prelude.{◌≡◌, ◌≢◌, ℕ, ◌≤◌, ◌<◌, pos}
+use Rattle.std.specs.Prelude.{◌≡◌, ◌≢◌, Option, ℕ, ◌≤◌, ◌<◌}
 use Rattle.std.proofs.Math.Path.{refl}
 use Rattle.std.proofs.Common.{sym}
 use Rattle.tree_laws.specs.AncestorLaws.{anc_in}
@@ -21,22 +21,23 @@ use Rattle.layer_laws.proofs.Numbered.{in_tree}
 use Rattle.ancestry.specs.declared.stored.Fork.{Fork}
 use Rattle.ancestry_exact.specs.ForkExact.{ForkExact}
 use Rattle.ancestry_exact.proofs.StoredExact.{stored_exact}
-use Rattle.query.specs.Outcome.{Outcome, answered, refused}
+use Rattle.query.specs.Outcome.{refused}
 use Rattle.query.specs.Question.{is_served, served, question}
 use Rattle.query.specs.QuestionLaws.{question_by}
 use Rattle.query_exact.specs.PlainShape.{plain_shape, kindred_first, first_kindred}
 use Rattle.query_exact.specs.PlainExact.{level_passes, node_passes, plain_exact, distance_exact}
 use Rattle.query_exact.specs.SoughtExact.{recorded, asked_one, asked_two}
-use Rattle.query_exact.specs.QuestionExact.{given, ExactOutcome}
+use Rattle.query_exact.specs.QuestionExact.{ExactOutcome}
 
 -- Laws
 
 module _ {capacity : ℕ} {t : Table} (r : Rules capacity t) (fits : capacity ≤ node_limit) where
   -- of an exact answer every test of the service passes, and levels give the distances
-  served_exact : {f : ℕ} (x y : ℕ) → InTree t.layer f x → InTree t.layer f y → (g : Fork) → ForkExact (plain t) x y g
-      → ExactOutcome t x y (served t x y g)
+  served_exact : {f : ℕ} (x y : ℕ) → InTree t.layer f x → InTree t.layer f y → (o : Option Fork) → ForkExact (plain t) x y o
+      → ExactOutcome t x y (served t x y o)
   unfolding served is_served
-  served_exact {f} x y i j g a =
+  served_exact {f} x y i j o a =
+      let g = a.fork in
       let u = distance_exact r fits i a.characteristic.nca.left in
       let v = distance_exact r fits j a.characteristic.nca.right in
       let l = anc_in (depth_forest (plain_shape r fits)) i.in_use a.characteristic.nca.left in
@@ -51,10 +52,10 @@ module _ {capacity : ℕ} {t : Table} (r : Rules capacity t) (fits : capacity �
         };
         answers = record { characteristic = a.characteristic; distance_x = u.steps; distance_y = v.steps; label = refl };
         outcome = rw (
+          a.sound,
           node_passes r fits x i.in_use,
           node_passes r fits y j.in_use,
           level_passes r fits g.nca l,
-          a.sound,
           u.levels,
           v.levels,
         );

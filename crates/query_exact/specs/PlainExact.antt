@@ -1,11 +1,12 @@
 -- On a table that passes inspection the plain answer by an exact stored one meets sound rows and levels only, and is the nearest common ancestor in the plain tree and both branches;
 -- levels give the distances.
-use Rattle.std.specs.Prelude.{◌≡◌, Bool, true, ℕ, ◌-◌, ◌≤◌, ◌<◌, pos, nat_abs, ◌-ℤ◌}
+use Rattle.std.specs.Prelude.{◌≡◌, Bool, true, Option, Some, option_and_then, ℕ, ◌-◌, ◌≤◌, ◌<◌, pos, nat_abs, ◌-ℤ◌}
 use Rattle.std.proofs.Math.Path.{refl}
 use Rattle.laws.specs.Test.{Says, holds, fails, says_true, says_leb, says_map, says_not, says_and, says_eqb, pick}
 use Rattle.tree_laws.specs.Ancestor.{Anc, Forest}
 use Rattle.tree_laws.specs.Depth.{Steps}
 use Rattle.tree_laws.specs.DepthLaws.{anc_steps, depth_forest}
+use Rattle.tree_laws.specs.Nca.{Characteristic}
 use Rattle.tree_laws.specs.NcaLaws.{branch_over}
 use Rattle.tree_laws.specs.LeadsOn.{LeadsOn, Above, leads_above, plain_leads_x, plain_leads_y, plain_leads_off}
 use Rattle.table.specs.Capacity.{node_limit}
@@ -70,8 +71,8 @@ module _ {capacity : ℕ} {t : Table} (r : Rules capacity t) (fits : capacity �
         says_map (λ h. record { other = h.0; over = h.1 }) (λ h. (h.other, h.over)) (says_and (says_not (says_eqb u a)) (λ _. says_line u i))
 
     -- the plain answer by these tests, from the stored answer g for x and y
-    module _ {stored : ℕ → ℕ → Fork} (exact : StoredExact t.layer stored) (x y : ℕ) (i : InTree t.layer f x) (j : InTree t.layer f y)
-        (g : Fork) (xy : ForkExact (parent t.layer) x y g) where
+    module _ {stored : ℕ → ℕ → Option Fork} (exact : StoredExact t.layer stored) (x y : ℕ) (i : InTree t.layer f x) (j : InTree t.layer f y)
+        (g : Fork) (xy : Characteristic (parent t.layer) x y g.nca g.to_x g.to_y) where
       s : ℕ
       s = t.root f
 
@@ -89,22 +90,23 @@ module _ {capacity : ℕ} {t : Table} (r : Rules capacity t) (fits : capacity �
 
       -- its row and branches
       a : InTree t.layer f g.nca
-      a = over_in i xy.characteristic.nca.left
+      a = over_in i xy.nca.left
 
       u : InTree t.layer f g.to_x
-      u = over_in i (branch_over xy.characteristic.toward_x)
+      u = over_in i (branch_over xy.toward_x)
 
       v : InTree t.layer f g.to_y
-      v = over_in j (branch_over xy.characteristic.toward_y)
+      v = over_in j (branch_over xy.toward_y)
 
       Leads : ℕ → Type 0
       Leads w = LeadsOn (parent t.layer) (t.root f) g.nca w
 
-      kept_exact : ¬ Leads g.to_x → ¬ Leads g.to_y → ForkExact (tree_parent t f) x y g
+      kept_exact : ¬ Leads g.to_x → ¬ Leads g.to_y → ForkExact (tree_parent t f) x y (Some g)
       unfolding Leads s
       kept_exact d e = record {
-        sound = xy.sound;
-        characteristic = plain_leads_off tree o i.in_use j.in_use xy.characteristic xr.characteristic yr.characteristic d e;
+        fork = g;
+        sound = refl;
+        characteristic = plain_leads_off tree o i.in_use j.in_use xy xr.characteristic yr.characteristic d e;
       }
 
       lowered_exact : ForkExact (tree_parent t f) x y (lowered t stored s x y g)
@@ -113,11 +115,11 @@ module _ {capacity : ℕ} {t : Table} (r : Rules capacity t) (fits : capacity �
         where
           go : {a b : Bool} → Says (Leads g.to_x) a → Says (Leads g.to_y) b
               → ForkExact (tree_parent t f) x y
-              (pick a (lower_x (parent t.layer) (stored x (t.root f))) (pick b (lower_y (parent t.layer) (stored y (t.root f))) g))
+              (pick a (option_and_then (lower_x (parent t.layer)) (stored x (t.root f))) (pick b (option_and_then (lower_y (parent t.layer)) (stored y (t.root f))) (Some g)))
           go (holds d) e = rw xr.sound (forked_exact (depth_forest (tree_shape r fits i)) i.in_use j.in_use
-              (plain_leads_x tree o i.in_use j.in_use xy.characteristic xr.characteristic yr.characteristic d))
+              (plain_leads_x tree o i.in_use j.in_use xy xr.characteristic yr.characteristic d))
           go (fails d) (holds e) = rw yr.sound (forked_exact (depth_forest (tree_shape r fits i)) i.in_use j.in_use
-              (plain_leads_y tree o i.in_use j.in_use xy.characteristic xr.characteristic yr.characteristic e))
+              (plain_leads_y tree o i.in_use j.in_use xy xr.characteristic yr.characteristic e))
           go (fails d) (fails e) = kept_exact d e
 
       all_read : is_read t.layer.count t.layer.row t.level s g ≡ true
@@ -135,18 +137,18 @@ module _ {capacity : ℕ} {t : Table} (r : Rules capacity t) (fits : capacity �
         where
           go : {b : Bool} → on_line_but t (t.root f) g.nca ≡ b → Says (Above (parent t.layer) (t.root f) g.nca) b
               → ForkExact (tree_parent t f) x y (plain_from t stored (t.root f) x y g)
-          go e (holds _) = rw (← plain_lowered t stored (t.root f) x y g xy.sound e all_read) lowered_exact
+          go e (holds _) = rw (← plain_lowered t stored (t.root f) x y g e all_read) lowered_exact
           go e (fails n) = rw (plain_kept t stored (t.root f) x y g e)
-              (kept_exact (λ d. n (leads_above tree o i.in_use xy.characteristic.toward_x d)) (λ d. n (leads_above tree o j.in_use xy.characteristic.toward_y d)))
+              (kept_exact (λ d. n (leads_above tree o i.in_use xy.toward_x d)) (λ d. n (leads_above tree o j.in_use xy.toward_y d)))
 
     -- by an exact stored answer the plain one is exact
-    module _ {stored : ℕ → ℕ → Fork} (exact : StoredExact t.layer stored) (x y : ℕ) (i : InTree t.layer f x) (j : InTree t.layer f y) where
+    module _ {stored : ℕ → ℕ → Option Fork} (exact : StoredExact t.layer stored) (x y : ℕ) (i : InTree t.layer f x) (j : InTree t.layer f y) where
       tree_exact : ForkExact (tree_parent t f) x y (plain_answer t stored (t.root f) x y)
       unfolding plain_answer s
-      tree_exact = plain_from_exact exact x y i j (stored x y) (exact f x y i j)
+      tree_exact = let a = exact f x y i j in rw a.sound (plain_from_exact exact x y i j a.fork a.characteristic)
 
       pub plain_exact : ForkExact (plain t) x y (plain_answer t stored (t.root f) x y)
-      plain_exact = record { sound = tree_exact.sound; characteristic = plain_characteristic r fits i j tree_exact.characteristic }
+      plain_exact = record { fork = tree_exact.fork; sound = tree_exact.sound; characteristic = plain_characteristic r fits i j tree_exact.characteristic }
 
     pub distance_exact : {a x : ℕ} → InTree t.layer f x → Anc (plain t) a x → DistanceExact t a x
     distance_exact {a} {x} i s =

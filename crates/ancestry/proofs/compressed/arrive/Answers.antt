@@ -1,5 +1,5 @@
 -- `arrive`: the row is known, or its check decides.
-use mathlib.Core.Path.{sym, ◌∙◌}
+use Rattle.std.proofs.Common.{sym, ◌∙◌}
 use Rattle.layer.specs.CheckedLaws.{known_row}
 use Rattle.ancestry.specs.CompressedStepLaws.{arrive_met, arrive_lost}
 use Rattle.ancestry.proofs.compressed.arrive.Goals as goal
@@ -11,4 +11,4 @@ pub returns-then-is_row : goal.returns-then-is_row
 returns-then-is_row c = arrive_met _ _ _ _ (sym c.is_row.ensures ∙ c.if-is_row.true)
 
 pub returns : goal.returns
-returns c = c.lost_side.ensures ∙ arrive_lost _ _ _ _ (sym c.is_row.ensures ∙ c.if-is_row.false)
+returns c = arrive_lost _ _ _ _ (sym c.is_row.ensures ∙ c.if-is_row.false)

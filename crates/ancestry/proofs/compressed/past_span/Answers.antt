@@ -1,5 +1,5 @@
 -- `past_span`: the side stays, or the row above is met.
-use mathlib.Core.Path.{sym, ◌∙◌}
+use Rattle.std.proofs.Common.{sym, ◌∙◌}
 use Rattle.ancestry.specs.CompressedStepLaws.{span_stay, span_up}
 use Rattle.ancestry.proofs.compressed.past_span.Goals as goal
 
@@ -7,4 +7,4 @@ pub returns-then-covers : goal.returns-then-covers
 returns-then-covers c = span_stay _ _ _ _ (sym c.covers.ensures ∙ c.if-covers.true)
 
 pub returns : goal.returns
-returns c = c.above.ensures ∙ span_up _ _ _ _ c.requires.sound_value (sym c.covers.ensures ∙ c.if-covers.false)
+returns c = c.above.ensures ∙ span_up _ _ _ _ (sym c.covers.ensures ∙ c.if-covers.false)
