@@ -30,24 +30,21 @@ fn reply_field(field: Field, out: &mut [u16]) -> u16
     ensures { reply result out.new ≡ field_reply out.old (outcome_of field) }
 {
     match field {
-        Field::BadTag(_) => 6,
-        Field::BadLength(_) => 7,
-        Field::Truncated(_) => 8,
-        Field::DirtyFiller(_) => 9,
+        Field::Refused(fault, _) => u16::from(fault),
         Field::End => put_field(out, 0, 0, 0, 0),
         Field::Leaf {
             parent,
             label,
             face,
-            next: _,
+            ..
         } => put_field(out, 1, parent, label, face),
         Field::Root {
-            named,
-            opening,
-            next: _,
-        } => put_field(out, 2, named as u16, opening, 0),
-        Field::Question { x, y, next: _ } => put_field(out, 3, x, y, 0),
-        Field::Alike { x, y, next: _ } => put_field(out, 4, x, y, 0),
+            opening: Some(opening),
+            ..
+        } => put_field(out, 2, 1, opening, 0),
+        Field::Root { opening: None, .. } => put_field(out, 2, 0, 0, 0),
+        Field::Question { x, y, .. } => put_field(out, 3, x, y, 0),
+        Field::Alike { x, y, .. } => put_field(out, 4, x, y, 0),
         Field::Filler(_) => put_field(out, 9, 0, 0, 0),
     }
 }
