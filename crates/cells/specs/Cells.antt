@@ -1,28 +1,9 @@
 -- Laws of cells, a list of numbers.
-use Rattle.std.specs.Prelude.{◌≡◌, List, ℕ, ◌+◌, ◌≤◌, ◌<◌, eqb, length, get_or, set, replicate}
-use Rattle.std.proofs.Common.{sym, ◌∙◌, arith, get_or-set_same, get_or-set_other, ext_get_or}
+use Rattle.std.specs.Prelude.{◌≡◌, List, ℕ, ◌<◌, eqb, length, get_or, set, replicate}
+use Rattle.std.proofs.Common.{sym, arith, get_or-set_same, get_or-set_other}
 use Rattle.std.proofs.Math.Decide.{ℕ_discrete}
 use Rattle.std.proofs.lemmas.List.{length-replicate, get_or-replicate}
 use Rattle.laws.specs.Test.{pick, says_eqb, says_true, says_false}
-
--- the cells below i hold v
-pub record Filled (v i : ℕ) (s : List ℕ) : Type 0 where
-  pub each : (x : ℕ) → x < i → get_or s x 0 ≡ v
-
-pub filled_none : {v : ℕ} {s : List ℕ} → Filled v 0 s
-filled_none = record { each = λ x l. absurd (omega arith) }
-
-pub filled_more : {v i : ℕ} {s : List ℕ} → Filled v i s → i < length s → Filled v (i + 1) (set s i v)
-filled_more {v} {i} {s} f l = record {
-  each = λ x k. elim (ℕ_discrete x i) [
-    | yes e ↦ rw e (get_or-set_same s i v 0 l)
-    | no d ↦ get_or-set_other s i x v 0 d ∙ f.each x (omega arith)
-  ];
-}
-
-pub filled_all : {v i n : ℕ} {s : List ℕ} → Filled v i s → length s ≡ n → n ≤ i → s ≡ replicate n v
-filled_all {v} {i} {n} {s} f e l =
-    ext_get_or 0 s (replicate n v) (e ∙ sym (length-replicate n v)) (λ x k. f.each x (omega arith) ∙ sym (get_or-replicate n x v 0 (omega arith)))
 
 -- what a cell holds after a store
 pub read_put : (s : List ℕ) (i a x : ℕ) → x < length s → get_or (set s i a) x 0 ≡ pick (eqb i x) a (get_or s x 0)

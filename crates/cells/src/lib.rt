@@ -26,9 +26,5 @@ pub fn put(s: &mut [u16], x: u16, v: u16)
 pub fn fill(s: &mut [u16], v: u16)
     ensures { s.new ≡ replicate (length s.old) v }
 {
-    let mut i: usize = 0;
-    while i < s.len() {
-        s[i] = v;
-        i += 1;
-    }
+    s.fill(v)
 }

@@ -9,28 +9,19 @@ ghost use Rattle.counts.specs.Count.{one_more, steps_of};
 pub fn one_more(a: u16) -> u16
     ensures { result ≡ one_more a }
 {
-    if a < 65535 {
-        return a + 1;
-    }
-    a
+    a.saturating_add(1)
 }
 
 // How far a lies above b.
 pub fn above(a: u16, b: u16) -> u16
     ensures { result ≡ a - b }
 {
-    if a < b {
-        return 0;
-    }
-    a - b
+    a.saturating_sub(b)
 }
 
 // The steps of a walk of so many rows, from the first row going down to the same row going up.
 pub fn steps_of(rows: u16) -> u32
     ensures { result ≡ steps_of rows }
 {
-    if rows == 0 {
-        return 0;
-    }
-    (rows as u32) * 2 - 1
+    (u32::from(rows) * 2).saturating_sub(1)
 }

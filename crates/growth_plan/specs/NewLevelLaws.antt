@@ -1,5 +1,5 @@
 -- Two signed tests of a level say whether it and the next level down, or up, lie within the limits.
-use Rattle.std.specs.Prelude.{◌≡◌, refl, Bool, true, false, ◌&&◌, ℕ, zero, suc, ◌-◌, ℤ, pos, negsuc, nat_abs, ◌+ℤ◌, ◌-ℤ◌}
+use Rattle.std.specs.Prelude.{◌≡◌, refl, Bool, true, false, ◌&&◌, ℕ, zero, suc, ◌-◌, ℤ, pos, negsuc, nat_abs, ◌+ℤ◌, ◌-ℤ◌, Some, None}
 use Rattle.std.proofs.Common.{arith, SFits, ltb-true, ltb-false, le-leb, leb-true}
 use Rattle.std.proofs.Math.IntN.{suc_ℤ, pred_ℤ, +ℤ_one, -ℤ_one}
 use Rattle.std.specs.Int.Signed.{lt_z}
@@ -8,7 +8,6 @@ use Rattle.std.proofs.lemmas.Bool.{lt-leb}
 use Rattle.laws.specs.Test.{pick}
 use Rattle.table.specs.Level.{is_level, level_limit}
 use Rattle.table.proofs.LevelLaws.{level_fits}
-use Rattle.growth_plan.specs.declared.level.Level.TheVariants.{At, Out}
 use Rattle.growth_plan.specs.Level.{level_from}
 
 -- the least and the greatest level
@@ -52,15 +51,15 @@ pred_within (negsuc n) h k = le-leb (suc (suc n)) level_limit (omega (arith, ltb
 
 -- the answers ---------------------------------------------------------------------
 
-not_read : (z w : ℤ) → is_level z ≡ false → Out ≡ level_from z w
+not_read : (z w : ℤ) → is_level z ≡ false → None ≡ level_from z w
 unfolding level_from
 not_read z w e = rw e
 
-not_made : (z w : ℤ) → is_level w ≡ false → Out ≡ level_from z w
+not_made : (z w : ℤ) → is_level w ≡ false → None ≡ level_from z w
 unfolding level_from
 not_made z w e = rw e (go (is_level z))
   where
-    go : (b : Bool) → Out ≡ pick (b && false) (At w) Out
+    go : (b : Bool) → None ≡ pick (b && false) (Some w) None
     go true = refl
     go false = refl
 
@@ -69,7 +68,7 @@ pub record Made (z w : ℤ) : Type 0 where
   pub read : is_level z ≡ true
   pub made : is_level w ≡ true
 
-pub made_at : {z w : ℤ} → Made z w → At w ≡ level_from z w
+pub made_at : {z w : ℤ} → Made z w → Some w ≡ level_from z w
 unfolding level_from
 made_at m = rw (m.read, m.made)
 
@@ -77,19 +76,19 @@ pub made_fits : {z w : ℤ} → Made z w → SFits w32 w
 made_fits {w = w} m = level_fits w (leb-true (nat_abs w) level_limit m.made)
 
 module _ {y z : ℤ} (same : y ≡ z) where
-  pub leaf_low : lt_z y (negsuc (level_limit - 1)) ≡ true → Out ≡ level_from z (z +ℤ pos 1)
+  pub leaf_low : lt_z y (negsuc (level_limit - 1)) ≡ true → None ≡ level_from z (z +ℤ pos 1)
   leaf_low h = not_read z (z +ℤ pos 1) (least_out z (rw same at h))
 
-  pub leaf_high : lt_z (pos (level_limit - 1)) y ≡ true → Out ≡ level_from z (z +ℤ pos 1)
+  pub leaf_high : lt_z (pos (level_limit - 1)) y ≡ true → None ≡ level_from z (z +ℤ pos 1)
   leaf_high h = rw +ℤ_one (not_made z (suc_ℤ z) (suc_high z (rw same at h)))
 
   pub leaf_within : lt_z y (negsuc (level_limit - 1)) ≡ false → lt_z (pos (level_limit - 1)) y ≡ false → Made z (z +ℤ pos 1)
   leaf_within h k = record { read = suc_read z (rw same at h) (rw same at k); made = rw +ℤ_one (suc_within z (rw same at h) (rw same at k)) }
 
-  pub root_low : lt_z y (negsuc (level_limit - 2)) ≡ true → Out ≡ level_from z (z -ℤ pos 1)
+  pub root_low : lt_z y (negsuc (level_limit - 2)) ≡ true → None ≡ level_from z (z -ℤ pos 1)
   root_low h = rw -ℤ_one (not_made z (pred_ℤ z) (pred_low z (rw same at h)))
 
-  pub root_high : lt_z (pos level_limit) y ≡ true → Out ≡ level_from z (z -ℤ pos 1)
+  pub root_high : lt_z (pos level_limit) y ≡ true → None ≡ level_from z (z -ℤ pos 1)
   root_high h = not_read z (z -ℤ pos 1) (greatest_out z (rw same at h))
 
   pub root_within : lt_z y (negsuc (level_limit - 2)) ≡ false → lt_z (pos level_limit) y ≡ false → Made z (z -ℤ pos 1)

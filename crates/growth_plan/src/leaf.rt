@@ -1,14 +1,15 @@
 // A new leaf before the first store: its refusals in their order, and its plan.
 ghost use Rattle.std.specs.Prelude.{◌≡◌};
-ghost use Rattle.table.specs.Parts.{parts_of};
+ghost use Rattle.table.specs.Lent.{parts_in};
 ghost use Rattle.growth_plan.specs.Plan.{is_label, is_face, leaf_plan};
 
-use crate::level::{Level, leaf_level};
+use crate::level::leaf_level;
 use crate::row::{Marks, Planned, plan_row};
 use layer::layout::NONE;
-use table::capacity::{Fit, capacity};
+use table::capacity::capacity;
 use table::layout::{LARGEST_FACE, LARGEST_LABEL};
 use table::level::level;
+use table::parts::Parts;
 use table::refusal::Refusal;
 use table::state::{State, is_standing};
 use table::tree::{root_of, tree_of};
@@ -29,52 +30,50 @@ fn is_face(face: u16) -> bool
 
 // Why a leaf is refused, or its plan.
 pub fn plan_leaf(
-    fields: &[u16],
-    numbers: &[u64],
-    levels: &[i32],
-    ancestors: &[u16],
+    parts: &Parts<'_>,
     state: State,
     parent: u16,
     label: u16,
     face: u16,
-) -> Planned
-    ensures { result ≡ leaf_plan (parts_of fields.now numbers.now levels.now ancestors.now) state parent label face }
+) -> Result<Planned, Refusal>
+    ensures { result ≡ leaf_plan (parts_in parts.now) state parent label face }
 {
-    let Fit::Capacity(cap) = capacity(fields, numbers, levels, ancestors) else {
-        return Planned::Refuse(Refusal::Misfit);
+    let Some(cap) = capacity(parts) else {
+        return Err(Refusal::Misfit);
     };
     if state.count <= parent {
-        return Planned::Refuse(Refusal::UnknownNode);
+        return Err(Refusal::UnknownNode);
     }
     if !is_label(label) {
-        return Planned::Refuse(Refusal::BadLabel);
+        return Err(Refusal::BadLabel);
     }
     if !is_face(face) {
-        return Planned::Refuse(Refusal::BadFace);
+        return Err(Refusal::BadFace);
     }
     if (state.count as usize) == cap {
-        return Planned::Refuse(Refusal::Full);
+        return Err(Refusal::Full);
     }
     if !is_standing(cap, state) {
-        return Planned::Refuse(Refusal::Corrupt);
+        return Err(Refusal::Corrupt);
     }
-    if root_of(fields, state.count, tree_of(ancestors, state.count, parent)) == NONE {
-        return Planned::Refuse(Refusal::Corrupt);
+    let tree = tree_of(parts.ancestors, state.count, parent);
+    if root_of(parts.fields, state.count, tree) == NONE {
+        return Err(Refusal::Corrupt);
     }
-    let Level::At(at) = leaf_level(level(levels, parent)) else {
-        return Planned::Refuse(Refusal::Corrupt);
+    let Some(at) = leaf_level(level(parts.levels, parent)) else {
+        return Err(Refusal::Corrupt);
     };
     let marks = Marks {
         level: at,
         labelled: state.count,
-        label: label,
-        face: face,
+        label,
+        face,
         tree: NONE,
     };
     plan_row(
-        fields,
-        numbers,
-        ancestors,
+        parts.fields,
+        parts.numbers,
+        parts.ancestors,
         state.count,
         state.count,
         parent,

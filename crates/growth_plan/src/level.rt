@@ -9,34 +9,28 @@ const HIGHEST_PARENT: i32 = HIGHEST_LEVEL - 1;
 
 const LOWEST_ROOT: i32 = LOWEST_LEVEL + 1;
 
-#[derive(Drop)]
-pub enum Level {
-    At(i32),
-    Out,
-}
-
 // One more than the parent's: the level of a leaf.
-pub fn leaf_level(parent: i32) -> Level
+pub fn leaf_level(parent: i32) -> Option<i32>
     ensures { result ≡ level_from parent (parent +ℤ pos 1) }
 {
     if parent < LOWEST_LEVEL {
-        return Level::Out;
+        return None;
     }
     if HIGHEST_PARENT < parent {
-        return Level::Out;
+        return None;
     }
-    Level::At(parent + 1)
+    Some(parent + 1)
 }
 
 // One less than the old root's: the level of a new root.
-pub fn root_level(root: i32) -> Level
+pub fn root_level(root: i32) -> Option<i32>
     ensures { result ≡ level_from root (root -ℤ pos 1) }
 {
     if root < LOWEST_ROOT {
-        return Level::Out;
+        return None;
     }
     if HIGHEST_LEVEL < root {
-        return Level::Out;
+        return None;
     }
-    Level::At(root - 1)
+    Some(root - 1)
 }

@@ -1,16 +1,17 @@
 // A new root before the first store: its refusals in their order, and its plan.
 ghost use Rattle.std.specs.Prelude.{◌≡◌};
 ghost use Rattle.laws.specs.Test.{pick};
-ghost use Rattle.table.specs.Parts.{parts_of};
+ghost use Rattle.table.specs.Lent.{parts_in};
 ghost use Rattle.layer.specs.Checked.{Holds};
 ghost use Rattle.growth_plan.specs.Plan.{first_plan, is_opening, over_plan, root_over, root_plan};
 
 use crate::leaf::is_label;
-use crate::level::{Level, root_level};
+use crate::level::root_level;
 use crate::row::{Marks, Planned, plan_row};
 use layer::layout::NONE;
-use table::capacity::{Fit, capacity};
+use table::capacity::capacity;
 use table::level::level;
+use table::parts::Parts;
 use table::refusal::Refusal;
 use table::state::{State, is_standing};
 use table::tree::{root_of, tree_of};
@@ -37,33 +38,30 @@ fn if_named(named: bool, yes: u16, no: u16) -> u16
 
 // The plan of a new root over r, the root of the tree whose first row is `tree`: r takes the opening, where one is named, as its label.
 fn plan_above(
-    fields: &[u16],
-    numbers: &[u64],
-    levels: &[i32],
-    ancestors: &[u16],
+    parts: &Parts<'_>,
     state: State,
     tree: u16,
     r: u16,
     named: bool,
     opening: u16,
-) -> Planned
-    requires { Holds state.count fields.now numbers.now }
-    ensures { result ≡ root_over (parts_of fields.now numbers.now levels.now ancestors.now) state tree r named opening }
+) -> Result<Planned, Refusal>
+    requires { Holds state.count parts.now.fields.now parts.now.numbers.now }
+    ensures { result ≡ root_over (parts_in parts.now) state tree r named opening }
 {
-    let Level::At(at) = root_level(level(levels, r)) else {
-        return Planned::Refuse(Refusal::Corrupt);
+    let Some(at) = root_level(level(parts.levels, r)) else {
+        return Err(Refusal::Corrupt);
     };
     let marks = Marks {
         level: at,
         labelled: if_named(named, r, state.count),
         label: if_named(named, opening, 0),
         face: 0,
-        tree: tree,
+        tree,
     };
     plan_row(
-        fields,
-        numbers,
-        ancestors,
+        parts.fields,
+        parts.numbers,
+        parts.ancestors,
         state.count,
         state.count,
         r,
@@ -72,101 +70,85 @@ fn plan_above(
 }
 
 // Why a first node is refused, or its plan.
-pub fn plan_first(
-    fields: &[u16],
-    numbers: &[u64],
-    levels: &[i32],
-    ancestors: &[u16],
-    state: State,
-) -> Planned
-    ensures { result ≡ first_plan (parts_of fields.now numbers.now levels.now ancestors.now) state }
+pub fn plan_first(parts: &Parts<'_>, state: State) -> Result<Planned, Refusal>
+    ensures { result ≡ first_plan (parts_in parts.now) state }
 {
-    let Fit::Capacity(cap) = capacity(fields, numbers, levels, ancestors) else {
-        return Planned::Refuse(Refusal::Misfit);
+    let Some(cap) = capacity(parts) else {
+        return Err(Refusal::Misfit);
     };
     if (state.count as usize) == cap {
-        return Planned::Refuse(Refusal::Full);
+        return Err(Refusal::Full);
     }
     if !is_standing(cap, state) {
-        return Planned::Refuse(Refusal::Corrupt);
+        return Err(Refusal::Corrupt);
     }
-    Planned::Start(state.count)
+    Ok(Planned::Start(state.count))
 }
 
 // Why a new root over x is refused, or its plan.
 pub fn plan_over(
-    fields: &[u16],
-    numbers: &[u64],
-    levels: &[i32],
-    ancestors: &[u16],
+    parts: &Parts<'_>,
     state: State,
     x: u16,
     named: bool,
     opening: u16,
-) -> Planned
-    ensures { result ≡ over_plan (parts_of fields.now numbers.now levels.now ancestors.now) state x named opening }
+) -> Result<Planned, Refusal>
+    ensures { result ≡ over_plan (parts_in parts.now) state x named opening }
 {
-    let Fit::Capacity(cap) = capacity(fields, numbers, levels, ancestors) else {
-        return Planned::Refuse(Refusal::Misfit);
+    let Some(cap) = capacity(parts) else {
+        return Err(Refusal::Misfit);
     };
     if state.count <= x {
-        return Planned::Refuse(Refusal::UnknownNode);
+        return Err(Refusal::UnknownNode);
     }
     if !is_opening(named, opening) {
-        return Planned::Refuse(Refusal::BadLabel);
+        return Err(Refusal::BadLabel);
     }
     if !is_standing(cap, state) {
-        return Planned::Refuse(Refusal::Corrupt);
+        return Err(Refusal::Corrupt);
     }
-    let tree = tree_of(ancestors, state.count, x);
-    let root = root_of(fields, state.count, tree);
+    let tree = tree_of(parts.ancestors, state.count, x);
+    let root = root_of(parts.fields, state.count, tree);
     if root == NONE {
-        return Planned::Refuse(Refusal::Corrupt);
+        return Err(Refusal::Corrupt);
     }
     if root != x {
-        return Planned::Refuse(Refusal::NotRoot);
+        return Err(Refusal::NotRoot);
     }
     if (state.count as usize) == cap {
-        return Planned::Refuse(Refusal::Full);
+        return Err(Refusal::Full);
     }
-    plan_above(
-        fields, numbers, levels, ancestors, state, tree, x, named, opening,
-    )
+    plan_above(parts, state, tree, x, named, opening)
 }
 
 // Why a new root over that of the first tree, that of row 0, is refused, or its plan.
 pub fn plan_root(
-    fields: &[u16],
-    numbers: &[u64],
-    levels: &[i32],
-    ancestors: &[u16],
+    parts: &Parts<'_>,
     state: State,
     named: bool,
     opening: u16,
-) -> Planned
-    ensures { result ≡ root_plan (parts_of fields.now numbers.now levels.now ancestors.now) state named opening }
+) -> Result<Planned, Refusal>
+    ensures { result ≡ root_plan (parts_in parts.now) state named opening }
 {
-    let Fit::Capacity(cap) = capacity(fields, numbers, levels, ancestors) else {
-        return Planned::Refuse(Refusal::Misfit);
+    let Some(cap) = capacity(parts) else {
+        return Err(Refusal::Misfit);
     };
     if !is_opening(named, opening) {
-        return Planned::Refuse(Refusal::BadLabel);
+        return Err(Refusal::BadLabel);
     }
     if (state.count as usize) == cap {
-        return Planned::Refuse(Refusal::Full);
+        return Err(Refusal::Full);
     }
     if !is_standing(cap, state) {
-        return Planned::Refuse(Refusal::Corrupt);
+        return Err(Refusal::Corrupt);
     }
     if state.count == 0 {
-        return Planned::Start(0);
+        return Ok(Planned::Start(0));
     }
-    let tree = tree_of(ancestors, state.count, 0);
-    let root = root_of(fields, state.count, tree);
+    let tree = tree_of(parts.ancestors, state.count, 0);
+    let root = root_of(parts.fields, state.count, tree);
     if root == NONE {
-        return Planned::Refuse(Refusal::Corrupt);
+        return Err(Refusal::Corrupt);
     }
-    plan_above(
-        fields, numbers, levels, ancestors, state, tree, root, named, opening,
-    )
+    plan_above(parts, state, tree, root, named, opening)
 }

@@ -3,7 +3,7 @@ ghost use Rattle.std.specs.Prelude.{◌≡◌};
 ghost use Rattle.layer.specs.Checked.{Holds};
 ghost use Rattle.growth_plan.specs.PlannedRow.{planned_row};
 
-use join::seat::{Seat, Seating, seat_of};
+use join::seat::{Seat, seat_of};
 use table::refusal::Refusal;
 
 // What the table keeps of a row beside its seat: its level; a label and a face, and the row that takes them, which is the row itself but where a new root
@@ -23,12 +23,11 @@ pub struct Plan {
     pub marks: Marks,
 }
 
-// A row that joins, a first node, or why neither.
+// A row that joins, or a first node.
 #[derive(Drop)]
 pub enum Planned {
     Grow(Plan),
     Start(u16),
-    Refuse(Refusal),
 }
 
 // The plan of the row z as a leaf under p, with these marks: z is the count, or a row in use that is a tree by itself.
@@ -40,15 +39,12 @@ pub fn plan_row(
     z: u16,
     p: u16,
     marks: Marks,
-) -> Planned
+) -> Result<Planned, Refusal>
     requires { Holds count fields.now numbers.now }
     ensures { result ≡ planned_row fields.now numbers.now ancestors.now count z p marks }
 {
-    let Seating::At(seat) = seat_of(fields, numbers, ancestors, count, z, p) else {
-        return Planned::Refuse(Refusal::Corrupt);
+    let Some(seat) = seat_of(fields, numbers, ancestors, count, z, p) else {
+        return Err(Refusal::Corrupt);
     };
-    Planned::Grow(Plan {
-        seat: seat,
-        marks: marks,
-    })
+    Ok(Planned::Grow(Plan { seat, marks }))
 }

@@ -1,5 +1,6 @@
 // The stores of a first node.
 ghost use Rattle.std.specs.Prelude.{◌≡◌, pos};
+ghost use Rattle.table.specs.Lent.{SameLoans};
 ghost use Rattle.table.specs.Parts.{with_level};
 ghost use Rattle.join.specs.Lone.{lone_numbers, lone_entries};
 ghost use Rattle.growth_store.specs.Start.{started_fields};
@@ -8,23 +9,19 @@ use join::lone::stand_alone;
 use layer::write::put_field;
 use table::layout::{FACE, LABEL, ROOT};
 use table::level::put_level;
+use table::parts::PartsMut;
 
 // Row n stands alone, of label 0, front and level 0, its own root.
-pub fn start(
-    fields: &mut [u16],
-    numbers: &mut [u64],
-    levels: &mut [i32],
-    ancestors: &mut [u16],
-    n: u16,
-)
-    ensures fields { fields.new ≡ started_fields fields.old n }
-    ensures numbers { numbers.new ≡ lone_numbers numbers.old n }
-    ensures levels { levels.new ≡ with_level levels.old n (pos 0) }
-    ensures ancestors { ancestors.new ≡ lone_entries ancestors.old n }
+pub fn start(parts: &mut PartsMut<'_>, n: u16)
+    ensures fields { parts.new.fields.now ≡ started_fields parts.old.fields.now n }
+    ensures numbers { parts.new.numbers.now ≡ lone_numbers parts.old.numbers.now n }
+    ensures levels { parts.new.levels.now ≡ with_level parts.old.levels.now n (pos 0) }
+    ensures ancestors { parts.new.ancestors.now ≡ lone_entries parts.old.ancestors.now n }
+    ensures loans { SameLoans parts.old parts.new }
 {
-    stand_alone(fields, numbers, ancestors, n);
-    put_field(fields, n, LABEL, 0);
-    put_field(fields, n, FACE, 0);
-    put_field(fields, n, ROOT, n);
-    put_level(levels, n, 0);
+    stand_alone(parts.fields, parts.numbers, parts.ancestors, n);
+    put_field(parts.fields, n, LABEL, 0);
+    put_field(parts.fields, n, FACE, 0);
+    put_field(parts.fields, n, ROOT, n);
+    put_level(parts.levels, n, 0);
 }

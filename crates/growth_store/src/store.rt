@@ -1,6 +1,6 @@
 // The stores of a row that joins as planned. Nothing is refused here.
 ghost use Rattle.std.specs.Prelude.{◌≡◌};
-ghost use Rattle.table.specs.Parts.{parts_of};
+ghost use Rattle.table.specs.Lent.{parts_in_mut, SameLoans};
 ghost use Rattle.growth_store.specs.Store.{given, marked, stored, plan_stored};
 
 use growth_plan::row::{Marks, Plan};
@@ -8,6 +8,7 @@ use layer::layout::NONE;
 use layer::write::put_field;
 use table::layout::{FACE, LABEL, ROOT};
 use table::level::put_level;
+use table::parts::PartsMut;
 
 // The leaf has 0 at a place, then row y, mostly the leaf itself, has v there.
 fn give(fields: &mut [u16], place: u16, leaf: u16, y: u16, v: u16)
@@ -28,21 +29,15 @@ fn mark(fields: &mut [u16], leaf: u16, m: Marks)
 }
 
 // All stores, and how many rows were given a start.
-pub fn store(
-    fields: &mut [u16],
-    numbers: &mut [u64],
-    levels: &mut [i32],
-    ancestors: &mut [u16],
-    count: u16,
-    g: Plan,
-) -> u16
-    ensures { stored (parts_of fields.new numbers.new levels.new ancestors.new) result ≡ plan_stored (parts_of fields.old numbers.old levels.old ancestors.old) count g }
+pub fn store(parts: &mut PartsMut<'_>, count: u16, g: Plan) -> u16
+    ensures stored { stored (parts_in_mut parts.new) result ≡ plan_stored (parts_in_mut parts.old) count g }
+    ensures loans { SameLoans parts.old parts.new }
 {
     let seat = g.seat;
     let leaf = seat.leaf;
-    let rows = join::store::store(fields, numbers, ancestors, count, seat);
+    let rows = join::store::store(parts.fields, parts.numbers, parts.ancestors, count, seat);
     let marks = g.marks;
-    mark(fields, leaf.row, marks);
-    put_level(levels, leaf.row, marks.level);
+    mark(parts.fields, leaf.row, marks);
+    put_level(parts.levels, leaf.row, marks.level);
     rows
 }

@@ -1,5 +1,5 @@
 -- The chain of a new leaf (01: "the upper rows above it, each of whose s grows by 1. The head is the highest row of that chain with 5s ≥ 6σ").
-use Rattle.std.specs.Prelude.{Bool, List, ℕ, zero, suc, eqb}
+use Rattle.std.specs.Prelude.{Bool, List, ℕ, zero, suc, eqb, Option, Some, None}
 use Rattle.laws.specs.Test.{pick}
 use Rattle.counts.specs.Count.{one_more}
 use Rattle.tree_laws.specs.Ancestor.{none}
@@ -7,8 +7,6 @@ use Rattle.span.specs.Numbers.{outgrown}
 use Rattle.layer.specs.Layout.{upper_place, size_place, set_size_place}
 use Rattle.layer.specs.Row.{field_at, row_of}
 use Rattle.layer.specs.Write.{with_field}
-use Rattle.join.specs.declared.chain.Top.{Top}
-use Rattle.join.specs.declared.chain.Top.TheVariants.{At, Corrupt}
 use Rattle.layer.specs.Checked.{is_row}
 
 -- row u, with one row more below it, has outgrown its set size
@@ -16,16 +14,16 @@ unfoldable pub outgrown_at : List ℕ → ℕ → Bool
 outgrown_at f u = outgrown (one_more (field_at f u size_place)) (field_at f u set_size_place)
 
 -- the highest row from u up that has outgrown its set size, or `top`, found below u; corrupt where a row read is, or where fuel rows do not end the chain
-unfoldable pub top_from : ℕ → List ℕ → List ℕ → ℕ → ℕ → ℕ → Top
-top_from zero f m n u top = pick (eqb u none) (At top) Corrupt
+unfoldable pub top_from : ℕ → List ℕ → List ℕ → ℕ → ℕ → ℕ → Option ℕ
+top_from zero f m n u top = pick (eqb u none) (Some top) None
 top_from (suc fuel) f m n u top =
-    pick (eqb u none) (At top)
-    (pick (is_row n (row_of f m) u) (top_from fuel f m n (field_at f u upper_place) (pick (outgrown_at f u) u top)) Corrupt)
+    pick (eqb u none) (Some top)
+    (pick (is_row n (row_of f m) u) (top_from fuel f m n (field_at f u upper_place) (pick (outgrown_at f u) u top)) None)
 
 -- by what the chain holds
-abbrev pub on_top : {A : Type 0} → Top → (ℕ → A) → A → A
-on_top (At u) found other = found u
-on_top Corrupt found other = other
+abbrev pub on_top : {A : Type 0} → Option ℕ → (ℕ → A) → A → A
+on_top (Some u) found other = found u
+on_top None found other = other
 
 -- one more in the size of row u
 unfoldable pub raised_at : List ℕ → ℕ → List ℕ

@@ -1,5 +1,5 @@
 -- One row of the walk up the chain.
-use Rattle.std.specs.Prelude.{◌≡◌, true, false, ◌≢◌, List}
+use Rattle.std.specs.Prelude.{◌≡◌, true, false, ◌≢◌, List, Some, None}
 use Rattle.std.proofs.Math.Path.{refl}
 use Prim.Native.Nat.{ℕ, zero, suc}
 use borrow.Author.Tests.{eq-eqb, ne_eqb}
@@ -7,21 +7,20 @@ use Rattle.laws.specs.Test.{pick}
 use Rattle.tree_laws.specs.Ancestor.{none}
 use Rattle.layer.specs.Layout.{upper_place}
 use Rattle.layer.specs.Row.{field_at, row_of}
-use Rattle.join.specs.declared.chain.Top.TheVariants.{At, Corrupt}
 use Rattle.layer.specs.Checked.{is_row}
 use Rattle.join.specs.Chain.{outgrown_at, top_from, raised_at, raised}
 
 module _ (f m : List ℕ) (n u top : ℕ) where
-  pub top_stop : (fuel : ℕ) → u ≡ none → top_from fuel f m n u top ≡ At top
+  pub top_stop : (fuel : ℕ) → u ≡ none → top_from fuel f m n u top ≡ Some top
   unfolding top_from
   top_stop zero e = rw (eq-eqb u none e)
   top_stop (suc fuel) e = rw (eq-eqb u none e)
 
-  pub top_long : (fuel : ℕ) → fuel ≡ 0 → u ≢ none → top_from fuel f m n u top ≡ Corrupt
+  pub top_long : (fuel : ℕ) → fuel ≡ 0 → u ≢ none → top_from fuel f m n u top ≡ None
   unfolding top_from
   top_long fuel z d = rw (z, ne_eqb u none d)
 
-  pub top_corrupt : (fuel : ℕ) → u ≢ none → is_row n (row_of f m) u ≡ false → top_from fuel f m n u top ≡ Corrupt
+  pub top_corrupt : (fuel : ℕ) → u ≢ none → is_row n (row_of f m) u ≡ false → top_from fuel f m n u top ≡ None
   unfolding top_from
   top_corrupt zero d e = rw (ne_eqb u none d)
   top_corrupt (suc fuel) d e = rw (ne_eqb u none d, e)

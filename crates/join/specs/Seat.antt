@@ -1,5 +1,5 @@
 -- What is decided before the first store where a row joins under a row: its seat, which is the leaf, its upper row, its depth, and the head.
-use Rattle.std.specs.Prelude.{Bool, true, false, ◌&&◌, ◌||◌, not, List, ℕ, eqb}
+use Rattle.std.specs.Prelude.{Bool, true, false, ◌&&◌, ◌||◌, not, List, ℕ, eqb, Option, Some, None}
 use Rattle.laws.specs.Test.{pick}
 use Rattle.counts.specs.Count.{one_more, steps_of}
 use Rattle.tree_laws.specs.Ancestor.{none}
@@ -9,8 +9,6 @@ use Rattle.layer.specs.Row.{field_at, number_at, row_of}
 use Rattle.join.specs.declared.attach.Leaf.{Leaf}
 use Rattle.renumber.specs.declared.Head.{Head}
 use Rattle.join.specs.declared.seat.Seat.{Seat}
-use Rattle.join.specs.declared.seat.Seating.{Seating}
-use Rattle.join.specs.declared.seat.Seating.TheVariants.{At, Corrupt}
 use Rattle.layer.specs.Checked.{is_row}
 use Rattle.join.specs.Chain.{top_from, on_top}
 use Rattle.join.specs.CheckWalk.{check_walk}
@@ -55,26 +53,26 @@ is_whole f m n leaf h =
 -- the seat -----------------------------------------------------------------------------
 
 -- corrupt unless a test holds
-abbrev pub seated_if : Bool → Seating → Seating
-seated_if b s = pick b s Corrupt
+abbrev pub seated_if : Bool → Option Seat → Option Seat
+seated_if b s = pick b s None
 
 -- of the leaf z under p whose chain has this top
-unfoldable pub seat_at : List ℕ → List ℕ → List ℕ → ℕ → ℕ → ℕ → ℕ → ℕ → ℕ → Seating
+unfoldable pub seat_at : List ℕ → List ℕ → List ℕ → ℕ → ℕ → ℕ → ℕ → ℕ → ℕ → Option Seat
 seat_at f m a n z p upper top depth =
     seated_if (is_seated f m z (head_of f top z upper))
     (seated_if (is_whole f m n (leaf_under f z p) (head_of f top z upper))
     (seated_if (copies_links a n (head_of f top z upper).upper)
-    (At (record { leaf = leaf_under f z p; upper = upper; depth = depth; head = head_of f top z upper }))))
+    (Some (record { leaf = leaf_under f z p; upper = upper; depth = depth; head = head_of f top z upper }))))
 
 -- of the row z as a leaf under p
-unfoldable pub seat_of : List ℕ → List ℕ → List ℕ → ℕ → ℕ → ℕ → Seating
+unfoldable pub seat_of : List ℕ → List ℕ → List ℕ → ℕ → ℕ → ℕ → Option Seat
 seat_of f m a n z p =
     seated_if (is_row n (row_of f m) p)
     (on_top (top_from n f m n (upper_for f m n p) none)
     (λ top. seat_at f m a n z p (upper_for f m n p) top (one_more (field_at f p depth_place)))
-    Corrupt)
+    None)
 
 -- by whether there is one
-abbrev pub on_seat : {A : Type 0} → Seating → (Seat → A) → A → A
-on_seat (At s) found other = found s
-on_seat Corrupt found other = other
+abbrev pub on_seat : {A : Type 0} → Option Seat → (Seat → A) → A → A
+on_seat (Some s) found other = found s
+on_seat None found other = other

@@ -11,13 +11,6 @@ use layer::write::put_field;
 use row_check::is_row;
 use span::Span;
 
-// What the chain holds: the highest row that one more row makes it outgrow its set size, or none; or something out of range.
-#[derive(Drop)]
-pub enum Top {
-    At(u16),
-    Corrupt,
-}
-
 // Row u, with one row more below it, has outgrown its set size.
 fn is_outgrown(fields: &[u16], u: u16) -> bool
     ensures { result ≡ outgrown_at fields.now u }
@@ -35,8 +28,9 @@ fn higher(fields: &[u16], u: u16, top: u16) -> u16
     top
 }
 
-// The highest row of the chain from u up that has outgrown its set size.
-pub fn top_of(fields: &[u16], numbers: &[u64], count: u16, first: u16) -> Top
+// The highest row of the chain from `first` up that one more row makes outgrow its set size, the row NONE where none does; no answer where something read
+// is out of range.
+pub fn top_of(fields: &[u16], numbers: &[u64], count: u16, first: u16) -> Option<u16>
     requires { Holds count fields.now numbers.now }
     ensures { result ≡ top_from count fields.now numbers.now count first 65535 }
 {
@@ -45,19 +39,19 @@ pub fn top_of(fields: &[u16], numbers: &[u64], count: u16, first: u16) -> Top
     let mut k: u16 = 0;
     while k < count {
         if u == NONE {
-            return Top::At(top);
+            return Some(top);
         }
         if !is_row(fields, numbers, count, u) {
-            return Top::Corrupt;
+            return None;
         }
         top = higher(fields, u, top);
         u = field(fields, u, UPPER);
         k += 1;
     }
     if u == NONE {
-        return Top::At(top);
+        return Some(top);
     }
-    Top::Corrupt
+    None
 }
 
 // One more in the size of row u.

@@ -4,7 +4,7 @@ ghost use Rattle.layer.specs.Checked.{Holds};
 ghost use Rattle.join.specs.Seat.{upper_for, old_head, head_of, is_first, is_seated, is_whole, seat_at, seat_of};
 
 use crate::attach::Leaf;
-use crate::chain::{Top, top_of};
+use crate::chain::top_of;
 use crate::check_walk::check_walk;
 use crate::copied::copies_links;
 use counts::{one_more, steps_of};
@@ -21,13 +21,6 @@ pub struct Seat {
     pub upper: u16,
     pub depth: u16,
     pub head: Head,
-}
-
-// A seat, or that something read is out of range.
-#[derive(Drop)]
-pub enum Seating {
-    At(Seat),
-    Corrupt,
 }
 
 // The upper row of a leaf under p: p where it is an apex, else p's own; none where p has a parent that is no row in use.
@@ -66,7 +59,7 @@ fn head_of(fields: &[u16], top: u16, leaf: u16, upper: u16) -> Head
     if top == NONE {
         return Head {
             row: leaf,
-            upper: upper,
+            upper,
             rows: 1,
         };
     }
@@ -103,7 +96,7 @@ fn is_whole(fields: &[u16], numbers: &[u64], count: u16, leaf: Leaf, head: Head)
     check_walk(fields, numbers, count, leaf, head.row, steps_of(head.rows))
 }
 
-// The seat of the leaf z under p whose chain has this top.
+// The seat of the leaf z under p whose chain has this top; none where something read is out of range.
 fn seat_at(
     fields: &[u16],
     numbers: &[u64],
@@ -114,7 +107,7 @@ fn seat_at(
     upper: u16,
     top: u16,
     depth: u16,
-) -> Seating
+) -> Option<Seat>
     requires { Holds count fields.now numbers.now }
     ensures { result ≡ seat_at fields.now numbers.now ancestors.now count z p upper top depth }
 {
@@ -125,23 +118,23 @@ fn seat_at(
     };
     let head = head_of(fields, top, z, upper);
     if !is_seated(fields, numbers, z, head) {
-        return Seating::Corrupt;
+        return None;
     }
     if !is_whole(fields, numbers, count, leaf, head) {
-        return Seating::Corrupt;
+        return None;
     }
     if !copies_links(ancestors, count, head.upper) {
-        return Seating::Corrupt;
+        return None;
     }
-    Seating::At(Seat {
-        leaf: leaf,
-        upper: upper,
-        depth: depth,
-        head: head,
+    Some(Seat {
+        leaf,
+        upper,
+        depth,
+        head,
     })
 }
 
-// The seat of the row z as a leaf under p: z is the count, or a row in use that is a tree by itself.
+// The seat of the row z as a leaf under p, none where something read is out of range: z is the count, or a row in use that is a tree by itself.
 pub fn seat_of(
     fields: &[u16],
     numbers: &[u64],
@@ -149,17 +142,15 @@ pub fn seat_of(
     count: u16,
     z: u16,
     p: u16,
-) -> Seating
+) -> Option<Seat>
     requires { Holds count fields.now numbers.now }
     ensures { result ≡ seat_of fields.now numbers.now ancestors.now count z p }
 {
     if !is_row(fields, numbers, count, p) {
-        return Seating::Corrupt;
+        return None;
     }
     let upper = upper_for(fields, numbers, count, p);
-    let Top::At(top) = top_of(fields, numbers, count, upper) else {
-        return Seating::Corrupt;
-    };
+    let top = top_of(fields, numbers, count, upper)?;
     let depth = one_more(field(fields, p, DEPTH));
     seat_at(fields, numbers, ancestors, count, z, p, upper, top, depth)
 }

@@ -1,5 +1,5 @@
 -- A question draws on few rows of any table, where its stored answers do.
-use Rattle.std.specs.Prelude.{◌≡◌, ◌&&◌, List, [], ℕ, ◌≤◌, ◌<◌, ltb, pos, length, get_or}
+use Rattle.std.specs.Prelude.{◌≡◌, ◌&&◌, Err, List, [], ℕ, ◌≤◌, ◌<◌, ltb, pos, length, get_or}
 use Rattle.std.proofs.Math.Path.{refl, ap}
 use Rattle.std.proofs.Common.{sym, ◌∙◌, arith}
 use Rattle.std.proofs.Math.Bool.{Bool, true, false}
@@ -28,7 +28,6 @@ use Rattle.ancestry.specs.Every.{Every, every, every_left, every_right}
 use Rattle.ancestry.specs.StoredRows.{stored_rows}
 use Rattle.ancestry.specs.StoredRows.{Agree as AgreeIn}
 use Rattle.ancestry.specs.StoredRowsLaws.{stored_same, stored_kind}
-use Rattle.query.specs.declared.tree.Sought.TheVariants.{Refused}
 use Rattle.query.specs.Line.{on_line_but}
 use Rattle.query.specs.Node.{is_node}
 use Rattle.query.specs.NodeLaws.{is_node_lem}
@@ -259,8 +258,8 @@ decided {c} a b f g s x y h = rw (fits_told f, fits_told g) (go (ltb x s.count &
         ∙ ap (λ k. on_sought k there refused)
         (sought_same a.fields b.fields a.ancestors b.ancestors s.count x y (h.1.0.stored.entry tree_place (omega arith)) (h.1.1.0.stored.entry tree_place (omega arith)) h.0.root)
 
-    go : (k l : Bool) → on_sought (pick k (pick l (sought_in b.fields b.ancestors s.count x y) (Refused Corrupt)) (Refused UnknownNode)) there refused
-        ≡ on_sought (pick k (pick l (sought_in a.fields a.ancestors s.count x y) (Refused Corrupt)) (Refused UnknownNode)) here refused
+    go : (k l : Bool) → on_sought (pick k (pick l (sought_in b.fields b.ancestors s.count x y) (Err Corrupt)) (Err UnknownNode)) there refused
+        ≡ on_sought (pick k (pick l (sought_in a.fields a.ancestors s.count x y) (Err Corrupt)) (Err UnknownNode)) here refused
     go true true = sym outcome
     go true false = refl
     go false l = refl

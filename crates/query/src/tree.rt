@@ -1,22 +1,16 @@
 // What is looked at before any question on two nodes: the parts' lengths, the count, and the tree that both stand in, by the last ancestor entries of its
 // nodes and the root that the tree's first row records.
 ghost use Rattle.std.specs.Prelude.{◌&&◌, ◌≡◌, ltb};
-ghost use Rattle.table.specs.Parts.{parts_of};
+ghost use Rattle.table.specs.Lent.{parts_in};
 ghost use Rattle.query.specs.Sought.{sought_in};
 ghost use Rattle.query.specs.Asked.{asked};
 
 use layer::layout::NONE;
-use table::capacity::{Fit, capacity};
+use table::capacity::capacity;
+use table::parts::Parts;
 use table::refusal::Refusal;
 use table::state::{State, is_standing};
 use table::tree::{root_of, tree_of};
-
-// The root of the tree that two nodes share, or why there is none.
-#[derive(Drop)]
-pub enum Sought {
-    Root(u16),
-    Refused(Refusal),
-}
 
 // Both nodes are below the count. One test and not two: the fewer branches stand before the answer, the sooner the compiler makes it in place.
 fn are_known(count: u16, x: u16, y: u16) -> bool
@@ -26,48 +20,40 @@ fn are_known(count: u16, x: u16, y: u16) -> bool
 }
 
 // The root of the tree that x and y share: refusal 12 where they stand in different trees, and 4 where a number read is no row in use.
-fn seek(fields: &[u16], ancestors: &[u16], count: u16, x: u16, y: u16) -> Sought
+fn seek(fields: &[u16], ancestors: &[u16], count: u16, x: u16, y: u16) -> Result<u16, Refusal>
     ensures { result ≡ sought_in fields.now ancestors.now count x y }
 {
     let f = tree_of(ancestors, count, x);
     if f == NONE {
-        return Sought::Refused(Refusal::Corrupt);
+        return Err(Refusal::Corrupt);
     }
     let g = tree_of(ancestors, count, y);
     if g == NONE {
-        return Sought::Refused(Refusal::Corrupt);
+        return Err(Refusal::Corrupt);
     }
     if f != g {
-        return Sought::Refused(Refusal::OtherTree);
+        return Err(Refusal::OtherTree);
     }
     let r = root_of(fields, count, f);
     if r == NONE {
-        return Sought::Refused(Refusal::Corrupt);
+        return Err(Refusal::Corrupt);
     }
-    Sought::Root(r)
+    Ok(r)
 }
 
 // The same where the parts fit a capacity, both nodes are known and the count stands; else refusal 3, 1 or 4, looked for in this order.
-pub fn asked(
-    fields: &[u16],
-    numbers: &[u64],
-    levels: &[i32],
-    ancestors: &[u16],
-    state: State,
-    x: u16,
-    y: u16,
-) -> Sought
-    ensures { result ≡ asked (parts_of fields.now numbers.now levels.now ancestors.now) state x y }
+pub fn asked(parts: &Parts<'_>, state: State, x: u16, y: u16) -> Result<u16, Refusal>
+    ensures { result ≡ asked (parts_in parts.now) state x y }
 {
-    let Fit::Capacity(capacity) = capacity(fields, numbers, levels, ancestors) else {
-        return Sought::Refused(Refusal::Misfit);
+    let Some(capacity) = capacity(parts) else {
+        return Err(Refusal::Misfit);
     };
     let count = state.count;
     if !are_known(count, x, y) {
-        return Sought::Refused(Refusal::UnknownNode);
+        return Err(Refusal::UnknownNode);
     }
     if !is_standing(capacity, state) {
-        return Sought::Refused(Refusal::Corrupt);
+        return Err(Refusal::Corrupt);
     }
-    seek(fields, ancestors, count, x, y)
+    seek(parts.fields, parts.ancestors, count, x, y)
 }

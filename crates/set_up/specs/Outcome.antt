@@ -1,9 +1,8 @@
--- What set-up gives in 01's numbers and values, and which of them each case of `Made` stands for.
-use Rattle.std.specs.Prelude.{ℕ}
+-- What set-up gives in 01's numbers and values, and which of them each result stands for.
+use Rattle.std.specs.Prelude.{Result, Ok, Err, ℕ}
 use Rattle.table.specs.declared.refusal.Refusal.{Refusal}
 use Rattle.table.specs.Refusal.{number_of}
-use Rattle.set_up.specs.declared.Made.{Made}
-use Rattle.set_up.specs.declared.Made.TheVariants.{Empty, Refused}
+use Rattle.table.specs.declared.state.State.{State}
 
 -- a refusal's number; or the count
 pub data Outcome : Type 0 where
@@ -15,6 +14,6 @@ abbrev pub refused : Refusal → Outcome
 refused r = refusal (number_of r)
 
 -- the number or the value of each case
-abbrev pub outcome_of : Made → Outcome
-outcome_of (Empty s) = empty s.count
-outcome_of (Refused r) = refused r
+abbrev pub outcome_of : Result State Refusal → Outcome
+outcome_of (Ok s) = empty s.count
+outcome_of (Err r) = refused r

@@ -2,101 +2,54 @@
 
 #![tactic(auto)]
 
-ghost use Rattle.std.specs.Prelude.{◌≡◌, length, pos};
+ghost use Rattle.std.specs.Prelude.{◌≡◌, length};
 ghost use Rattle.laws.specs.Tabulate.{tabulate};
-ghost use Rattle.table.specs.Parts.{parts_of};
+ghost use Rattle.table.specs.Lent.{SameLoans, parts_in_mut};
 ghost use Rattle.set_up.specs.Outcome.{outcome_of};
 ghost use Rattle.set_up.specs.Blank.{blank_field, set_up, parts_after, tally_after};
 
 use layer::layout::{FIELDS, NONE, SIZE};
-use table::capacity::Fit;
 use table::layout::ROOT;
+use table::parts::PartsMut;
 use table::refusal::Refusal;
 use table::state::State;
 use tally::count::clear;
 use tally::fit::capacity_with;
-
-#[derive(Drop)]
-pub enum Made {
-    Empty(State),
-    Refused(Refusal),
-}
 
 // What place i of the fields holds in an empty table: links and root none, other numbers 0.
 fn blank_field(i: usize) -> u16
     ensures { result ≡ blank_field i }
 {
     let k = i % FIELDS;
-    if k < SIZE as usize {
-        return NONE;
+    if k < SIZE as usize || k == ROOT as usize {
+        NONE
+    } else {
+        0
     }
-    if k == ROOT as usize {
-        return NONE;
-    }
-    0
 }
 
 fn clear_fields(fields: &mut [u16])
     ensures { fields.new ≡ tabulate blank_field (length fields.old) }
 {
-    let mut i: usize = 0;
-    while i < fields.len() {
+    for i in 0..fields.len() {
         fields[i] = blank_field(i);
-        i += 1;
-    }
-}
-
-fn clear_numbers(numbers: &mut [u64])
-    ensures { numbers.new ≡ tabulate (λ _. 0) (length numbers.old) }
-{
-    let mut i: usize = 0;
-    while i < numbers.len() {
-        numbers[i] = 0;
-        i += 1;
-    }
-}
-
-fn clear_levels(levels: &mut [i32])
-    ensures { levels.new ≡ tabulate (λ _. pos 0) (length levels.old) }
-{
-    let mut i: usize = 0;
-    while i < levels.len() {
-        levels[i] = 0;
-        i += 1;
-    }
-}
-
-fn clear_ancestors(ancestors: &mut [u16])
-    ensures { ancestors.new ≡ tabulate (λ _. 65535) (length ancestors.old) }
-{
-    let mut i: usize = 0;
-    while i < ancestors.len() {
-        ancestors[i] = NONE;
-        i += 1;
     }
 }
 
 // Count 0, roots and links none, other numbers 0; refused only where the parts and the tally do not fit one capacity.
-pub fn set_up(
-    fields: &mut [u16],
-    numbers: &mut [u64],
-    levels: &mut [i32],
-    ancestors: &mut [u16],
-    tally: &mut [u16],
-) -> Made
-    ensures outcome { outcome_of result ≡ set_up (parts_of fields.old numbers.old levels.old ancestors.old) tally.old }
-    ensures after { parts_of fields.new numbers.new levels.new ancestors.new ≡ parts_after (parts_of fields.old numbers.old levels.old ancestors.old) tally.old }
-    ensures counts { tally.new ≡ tally_after (parts_of fields.old numbers.old levels.old ancestors.old) tally.old }
+pub fn set_up(parts: &mut PartsMut<'_>, tally: &mut [u16]) -> Result<State, Refusal>
+    ensures outcome { outcome_of result ≡ set_up (parts_in_mut parts.old) tally.old }
+    ensures after { parts_in_mut parts.new ≡ parts_after (parts_in_mut parts.old) tally.old }
+    ensures counts { tally.new ≡ tally_after (parts_in_mut parts.old) tally.old }
+    ensures loans { SameLoans parts.old parts.new }
 {
-    match capacity_with(fields, numbers, levels, ancestors, tally) {
-        Fit::Misfit => Made::Refused(Refusal::Misfit),
-        Fit::Capacity(_) => {
-            clear_fields(fields);
-            clear_numbers(numbers);
-            clear_levels(levels);
-            clear_ancestors(ancestors);
-            clear(tally);
-            Made::Empty(State { count: 0 })
-        }
-    }
+    let Some(_) = capacity_with(&parts.read(), tally) else {
+        return Err(Refusal::Misfit);
+    };
+    clear_fields(parts.fields);
+    parts.numbers.fill(0);
+    parts.levels.fill(0);
+    parts.ancestors.fill(NONE);
+    clear(tally);
+    Ok(State { count: 0 })
 }

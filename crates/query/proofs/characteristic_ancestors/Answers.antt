@@ -1,14 +1,16 @@
 -- `characteristic_ancestors`: what is looked at first refuses, or the tree's root is found and the question served.
 use Rattle.std.proofs.Common.{sym, ◌∙◌}
+use Rattle.std.proofs.lemmas.Result.{err_from_is_err_and}
 use Rattle.query.specs.AskedLaws.{root_held}
 use Rattle.query.specs.QuestionLaws.{question_by}
 use Rattle.query.proofs.characteristic_ancestors.Goals as goal
 
-pub returns-in-Refused : goal.returns-in-Refused
-returns-in-Refused c = question_by _ _ _ _ c.in-Refused.ensures
+pub returns-in_err-root : goal.returns-in_err-root
+returns-in_err-root c =
+    let p = err_from_is_err_and c.from_residual.result c.from_residual.ensures.1 in rw (p.1, p.2) (question_by _ _ _ _ c.in_err-root.ensures)
 
 pub served-requires : goal.served-requires
-served-requires c = root_held _ _ _ _ _ (sym c.in-Root.ensures)
+served-requires c = root_held _ _ _ _ _ (sym c.in_ok-root.ensures)
 
-pub returns-in-Root : goal.returns-in-Root
-returns-in-Root c = c.served.ensures ∙ question_by _ _ _ _ c.in-Root.ensures
+pub returns : goal.returns
+returns c = c.served.ensures ∙ question_by _ _ _ _ c.in_ok-root.ensures

@@ -50,7 +50,7 @@ returns-then-not-has_level c = let x = (sym c.is_node.ensures ∙ c.if-not-is_no
     let y = (sym c.is_node-2.ensures ∙ c.if-not-is_node-2.false) in
     let answer = c.plain_answer-f.ensures in
     let sound = sym (ap (λ (f : Fork). f.sound) answer) ∙ not-false _ c.if-not-f.false in
-    let levels = c.args.levels.now in
+    let levels = c.args.parts.now.levels.now in
     let level : is_level (level_at levels c.plain_answer-f.result.nca) ≡ false = sym c.has_level.ensures ∙ c.if-not-has_level.true in
     rw (x, y, sound, rw answer at level)
 
@@ -69,6 +69,6 @@ returns c = let x = (sym c.is_node.ensures ∙ c.if-not-is_node.false) in
     let y = (sym c.is_node-2.ensures ∙ c.if-not-is_node-2.false) in
     let answer = c.plain_answer-f.ensures in
     let sound = sym (ap (λ (f : Fork). f.sound) answer) ∙ not-false _ c.if-not-f.false in
-    let levels = c.args.levels.now in
+    let levels = c.args.parts.now.levels.now in
     let level : is_level (level_at levels c.plain_answer-f.result.nca) ≡ true = sym c.has_level.ensures ∙ c.if-not-has_level.false in
     rw (x, y, sound, rw answer at level, ← answer) c.answer_of.ensures

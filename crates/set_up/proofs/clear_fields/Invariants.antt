@@ -1,12 +1,7 @@
 -- `clear_fields` fills the fields from the front.
-use Prim.Native.Nat.{◌-◌}
-use lib.ListN.{length}
 use Rattle.laws.specs.Tabulate.{Begun}
 use Rattle.set_up.specs.Blank.{blank_field}
 use Rattle.set_up.proofs.clear_fields.Given as goal
 
 abbrev pub invariant-loop-i : goal.invariant-loop-i
 invariant-loop-i l = Begun blank_field 0 l.initial.fields l.fields l.i
-
-abbrev pub decreases-loop-i : goal.decreases-loop-i
-decreases-loop-i l = length l.initial.fields - l.i

@@ -1,6 +1,6 @@
 -- `root_level`: the two tests are those of both levels.
 use Rattle.growth_plan.specs.NewLevelLaws.{root_low, root_high, root_within, made_fits, made_at}
-use Rattle.growth_plan.specs.declared.level.Level.TheVariants.{At}
+use Rattle.std.specs.Prelude.{Some}
 use mir.ValLaws.{to_z-of_z}
 use mir.Syntax.{w32}
 use lib.IntN.{ℤ, pos, ◌-ℤ◌}
@@ -17,4 +17,4 @@ pub overflow_sub-result : goal.overflow_sub-result
 overflow_sub-result c = let e = to_z-of_z w32 c.args.root c.ranges.root in rw e (made_fits (root_within e c.if-root-lt-LOWEST_ROOT.false c.if-root-gt-HIGHEST_LEVEL.false))
 
 pub returns : goal.returns
-returns c = let e = to_z-of_z w32 c.args.root c.ranges.root in ap At (to_z-of_z w32 _ (overflow_sub-result c) ∙ ap (λ (z : ℤ). z -ℤ pos 1) e) ∙ made_at (root_within e c.if-root-lt-LOWEST_ROOT.false c.if-root-gt-HIGHEST_LEVEL.false)
+returns c = let e = to_z-of_z w32 c.args.root c.ranges.root in ap Some (to_z-of_z w32 _ (overflow_sub-result c) ∙ ap (λ (z : ℤ). z -ℤ pos 1) e) ∙ made_at (root_within e c.if-root-lt-LOWEST_ROOT.false c.if-root-gt-HIGHEST_LEVEL.false)

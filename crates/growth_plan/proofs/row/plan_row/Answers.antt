@@ -9,4 +9,4 @@ returns-in_default c = let a = c.args in
 
 pub returns : goal.returns
 returns c = let a = c.args in
-    on_seat a.fields.now a.numbers.now a.ancestors.now a.count a.z a.p a.marks _ (c.in-At.ensures)
+    on_seat a.fields.now a.numbers.now a.ancestors.now a.count a.z a.p a.marks _ (c.in-Some.ensures)

@@ -2,6 +2,6 @@
 use Rattle.growth_store.specs.Start.{started_fields}
 use Rattle.growth_store.proofs.start.start.Goals as goal
 
-pub returns : goal.returns
+pub returns-clause-fields : goal.returns-clause-fields
 unfolding started_fields
-returns c = record { fields = rw (c.put_field-3.ensures, c.put_field-2.ensures, c.put_field.ensures, c.stand_alone.ensures.fields); numbers = c.stand_alone.ensures.numbers; levels = c.put_level.ensures; ancestors = c.stand_alone.ensures.ancestors }
+returns-clause-fields c = rw (c.put_field-3.ensures, c.put_field-2.ensures, c.put_field.ensures, c.stand_alone.ensures.fields)

@@ -1,4 +1,4 @@
--- `is_read_lem`: each test in turn.
+-- `is_read`: each test in turn.
 use mathlib.Core.Path.{sym, ◌∙◌}
 use Rattle.query.specs.PlainAnswer.{is_read}
 use Rattle.query.proofs.plain.is_read.Goals as goal
