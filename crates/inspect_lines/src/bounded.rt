@@ -36,12 +36,5 @@ fn is_bounded(fields: &[u16], place: u16, limit: u16, x: u16) -> bool
 pub fn are_bounded(fields: &[u16], place: u16, limit: u16, n: u16) -> bool
     ensures { result ≡ are_bounded (field_table fields.now n) (column fields.now place) limit }
 {
-    let mut x: u16 = 0;
-    while x < n {
-        if !is_bounded(fields, place, limit, x) {
-            return false;
-        }
-        x += 1;
-    }
-    true
+    (0..n).all(|x| is_bounded(fields, place, limit, x))
 }

@@ -19,14 +19,12 @@ use table::level::level;
 fn first_row(fields: &[u16], x: u16) -> u16
     ensures { result ≡ first (field_layer fields.now 0) x }
 {
-    let mut left = field(fields, x, DEPTH);
     let mut z = x;
-    while 0 < left {
+    for _ in 0..field(fields, x, DEPTH) {
         let p = field(fields, z, PARENT);
         if p == NONE {
             return z;
         }
-        left -= 1;
         z = p;
     }
     z
@@ -43,15 +41,16 @@ fn is_in_tree(fields: &[u16], n: u16, f: u16, r: u16) -> bool
 fn mark_line(fields: &[u16], s: &mut [u16], root: u16)
     ensures { Marked (parents fields.now) (depths fields.now) root s.old s.new }
 {
-    let mut left = field(fields, root, DEPTH);
     let mut z = root;
-    while z != NONE {
-        put(s, z, 1);
-        if left == 0 {
+    for _ in 0..field(fields, root, DEPTH) {
+        if z == NONE {
             return;
         }
-        left -= 1;
+        put(s, z, 1);
         z = field(fields, z, PARENT);
+    }
+    if z != NONE {
+        put(s, z, 1);
     }
 }
 
@@ -75,12 +74,10 @@ fn mark_lines(fields: &[u16], s: &mut [u16], n: u16) -> bool
     ensures { LinesMarked (field_table fields.now n) s.new result }
 {
     fill(s, 0);
-    let mut f: u16 = 0;
-    while f < n {
+    for f in 0..n {
         if !mark_tree(fields, s, n, f) {
             return false;
         }
-        f += 1;
     }
     true
 }
@@ -121,14 +118,7 @@ fn is_level_by_mark(fields: &[u16], levels: &[i32], s: &[u16], x: u16) -> bool
 fn are_levels(fields: &[u16], levels: &[i32], s: &[u16], n: u16) -> bool
     ensures { result ≡ all_to (is_level_by_mark (level_table fields.now levels.now 0) s.now) n }
 {
-    let mut x: u16 = 0;
-    while x < n {
-        if !is_level_by_mark(fields, levels, s, x) {
-            return false;
-        }
-        x += 1;
-    }
-    true
+    (0..n).all(|x| is_level_by_mark(fields, levels, s, x))
 }
 
 // Rule 1, lines and levels of n rows whose trees are right.

@@ -25,10 +25,8 @@ fn count_labels(fields: &[u16], n: u16, counts: &mut [u16])
     requires { Counts (labels fields.now) 0 counts.old }
     ensures { Counts (labels fields.now) n counts.new }
 {
-    let mut x: u16 = 0;
-    while x < n {
+    for x in 0..n {
         raise(counts, field(fields, x, LABEL));
-        x += 1;
     }
 }
 
@@ -38,10 +36,8 @@ fn are_counts(tally: &[u16], counts: &[u16]) -> bool
     ensures { result ≡ are_counts tally.now (λ k. get_or counts.now k 0) label_count }
 {
     let mut same = true;
-    let mut k: usize = 0;
-    while k < LABELS {
+    for k in 0..LABELS {
         same = (tally[k] == counts[k]) & same;
-        k += 1;
     }
     same
 }

@@ -11,7 +11,7 @@ ghost use Rattle.reader.specs.Reading.{opened, passed};
 
 use log_fields::{Field, body_at, field_at, next_at};
 
-#[derive(Drop)]
+#[derive(Clone, Copy)]
 pub struct Reader<'a> {
     pub log: &'a [u8],
     // how far it has read
@@ -27,15 +27,15 @@ impl<'a> Reader<'a> {
     }
 
     // The field that it reads next.
-    pub fn field(self) -> Field
-        ensures { outcome_of result ≡ field_at self.entry.log.now self.entry.at }
+    pub fn field(&self) -> Field
+        ensures { outcome_of result ≡ field_at self.now.log.now self.now.at }
     {
         field_at(self.log, self.at)
     }
 
     // The reader past that field; it stays where the log ends or is cut short.
-    pub fn next(self) -> Reader<'a>
-        ensures { result ≡ passed self.entry }
+    pub fn next(&self) -> Reader<'a>
+        ensures { result ≡ passed self.now }
     {
         Reader {
             log: self.log,
@@ -44,15 +44,15 @@ impl<'a> Reader<'a> {
     }
 
     // The body of that field, as the part of the log itself.
-    pub fn body(self) -> &'a [u8]
-        ensures { IsBody self.entry.log self.entry.at result }
+    pub fn body(&self) -> &'a [u8]
+        ensures { IsBody self.now.log self.now.at result }
     {
         body_at(self.log, self.at)
     }
 
     // How far it has read.
-    pub fn place(self) -> usize
-        ensures { result ≡ self.entry.at }
+    pub fn place(&self) -> usize
+        ensures { result ≡ self.now.at }
     {
         self.at
     }
@@ -62,5 +62,5 @@ impl<'a> Reader<'a> {
 pub fn read_at(log: &[u8], at: usize) -> Field
     ensures { outcome_of result ≡ field_at log.now at }
 {
-    Reader::field(Reader { log, at })
+    Reader { log, at }.field()
 }

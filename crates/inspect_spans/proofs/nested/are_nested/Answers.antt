@@ -19,17 +19,11 @@ returns-then-not-are_starts c = let f = c.args.fields.now in
     let n = c.args.n in
     nested_start f m n (answer_no c.are_starts.ensures c.if-not-are_starts.true-raw)
 
-pub are_inside-requires : goal.are_inside-requires
-are_inside-requires c = c.requires.small
-
 pub returns-then-not-are_inside : goal.returns-then-not-are_inside
 returns-then-not-are_inside c = let f = c.args.fields.now in
     let m = c.args.numbers.now in
     let n = c.args.n in
     nested_inside f m n (answer_yes c.are_starts.ensures c.if-not-are_starts.false-raw) (answer_no c.are_inside.ensures c.if-not-are_inside.true-raw)
-
-pub are_apart-requires : goal.are_apart-requires
-are_apart-requires c = (c.requires.small, c.sort.ensures.0)
 
 pub returns-then-not-are_apart : goal.returns-then-not-are_apart
 returns-then-not-are_apart c = let f = c.args.fields.now in
@@ -38,9 +32,6 @@ returns-then-not-are_apart c = let f = c.args.fields.now in
     let wide : Starts m = record { each = λ x. omega (arith, (c.type_inv.numbers (x * number_stride + start_place)).fits) } in
     let apart = apart_by f m n wide c.requires.positive c.sort.ensures.0 c.sort.ensures.1 in
     nested_apart f m n (answer_yes c.are_starts.ensures c.if-not-are_starts.false-raw) (answer_yes c.are_inside.ensures c.if-not-are_inside.false-raw) (sym apart ∙ answer_no c.are_apart.ensures c.if-not-are_apart.true-raw)
-
-pub are_dense-requires : goal.are_dense-requires
-are_dense-requires c = record { arranged = c.sort.ensures; small = c.requires.small }
 
 pub returns : goal.returns
 returns c = let f = c.args.fields.now in
