@@ -121,11 +121,7 @@ pub fn plan_over(
 }
 
 // Why a new root over that of the first tree, that of row 0, is refused, or its plan.
-pub fn plan_root(
-    parts: &Parts<'_>,
-    state: State,
-    opening: Option<u16>,
-) -> Result<Planned, Refusal>
+pub fn plan_root(parts: &Parts<'_>, state: State, opening: Option<u16>) -> Result<Planned, Refusal>
     ensures { result ≡ root_plan (parts_in parts.now) state (is_some opening) (unwrap_or opening 0) }
 {
     let Some(cap) = capacity(parts) else {

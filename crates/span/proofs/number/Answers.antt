@@ -20,15 +20,6 @@ within start k x f e h = rw (← e) (sym (capped_within (start + k * x) h))
 past : (start k x f : ℕ) → x ≡ f → limit < start + k * x → over ≡ capped (start + k * f)
 past start k x f e h = rw (← e) (sym (capped_past (start + k * x) h))
 
-pub overflow_mul-far : goal.overflow_mul-far
-overflow_mul-far c = omega (arith, parts_within _ _ c.requires c.if-one-parts.true)
-
-pub overflow_sub-far : goal.overflow_sub-far
-overflow_sub-far c = parts_within _ _ c.requires c.if-one-parts.true
-
-pub overflow_add-result : goal.overflow_add-result
-overflow_add-result c = omega (arith, parts_within _ _ c.requires c.if-one-parts.true)
-
 pub returns-then-start-far : goal.returns-then-start-far
 returns-then-start-far c = within
     _

@@ -1,8 +1,7 @@
 -- `part` multiplies the set size as often as the exponent says: after k turns the product is its k-th power.
 use mathlib.Core.Path.{◌≡◌, sym, ◌∙◌}
-use Prim.Native.Nat.{ℕ, suc, ◌-◌, ◌*◌, ◌^◌, ◌≤◌, ◌<◌}
-use native.Mathlib.Nat.{pow-zero, pow-suc, pow-le-pow_left, pow-le-pow_right}
-use native.Mathlib.Numerals.{add-one}
+use Prim.Native.Nat.{ℕ, suc, ◌*◌, ◌^◌, ◌≤◌, ◌<◌}
+use native.Mathlib.Nat.{pow-suc, pow-le-pow_left, pow-le-pow_right}
 use native.Mathlib.Omega.{arith}
 use Rattle.laws.specs.Fourth.{fourth_pow}
 use Rattle.span.specs.Constants.{exponent}
@@ -13,17 +12,8 @@ small : (w k : ℕ) → w ≤ 65535 → k < exponent → w ^ k * w < 2 ^ 64
 small w k h l =
     omega (arith, sym (pow-suc w k), pow-le-pow_left h (suc k), pow-le-pow_right {n = 65535} (omega arith) {i = suc k} {j = exponent} (omega arith))
 
-pub loop-init : goal.loop-init
-loop-init c = (omega arith, sym (pow-zero _))
-
 pub overflow_mul-r : goal.overflow_mul-r
 overflow_mul-r c = record { fits = rw c.loop.invariant.1 (small c.args.set_size c.loop.counter (omega arith) (omega arith)) }
-
-pub loop-smaller : goal.loop-smaller
-loop-smaller c = omega arith
-
-pub loop-preserved : goal.loop-preserved
-loop-preserved c = (omega arith, rw (c.loop.invariant.1, add-one) (sym (pow-suc _ _)))
 
 pub returns : goal.returns
 returns c = let full : c.loop.counter ≡ exponent = omega arith in c.loop.invariant.1 ∙ (rw full (sym (fourth_pow _)))

@@ -1,7 +1,6 @@
 -- `plan_first`: the refusals in their order.
 use Rattle.growth_plan.specs.PlanLaws.{first_misfit, first_full, first_fallen, first_row}
 use Rattle.table.specs.Lent.{parts_in}
-use borrow.Author.Tests.{not-true, not-false}
 use mathlib.Core.Path.{◌∙◌, sym}
 use Rattle.growth_plan.proofs.root.plan_first.Goals as goal
 
@@ -12,7 +11,7 @@ pub returns-then-state-cap : goal.returns-then-state-cap
 returns-then-state-cap c = let a = c.args in first_full (parts_in a.parts.now) a.state _ (c.in-Some.ensures) c.if-state-cap.true
 
 pub returns-then-not-is_standing : goal.returns-then-not-is_standing
-returns-then-not-is_standing c = let a = c.args in first_fallen (parts_in a.parts.now) a.state _ (c.in-Some.ensures) c.if-state-cap.false (sym c.is_standing.ensures ∙ not-true _ c.if-not-is_standing.true-raw)
+returns-then-not-is_standing c = let a = c.args in first_fallen (parts_in a.parts.now) a.state _ (c.in-Some.ensures) c.if-state-cap.false (sym c.if-not-is_standing.ensures)
 
 pub returns : goal.returns
-returns c = let a = c.args in first_row (parts_in a.parts.now) a.state _ (c.in-Some.ensures) c.if-state-cap.false (sym c.is_standing.ensures ∙ not-false _ c.if-not-is_standing.false-raw)
+returns c = let a = c.args in first_row (parts_in a.parts.now) a.state _ (c.in-Some.ensures) c.if-state-cap.false (sym c.if-not-is_standing.ensures)

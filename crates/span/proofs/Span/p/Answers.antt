@@ -1,9 +1,0 @@
--- `p` lies one part after the start.
-use native.Mathlib.Omega.{arith}
-use Rattle.span.proofs.Span.p.Goals as goal
-
-pub overflow_add-result : goal.overflow_add-result
-overflow_add-result c = omega (arith, c.part.ensures, c.requires)
-
-pub returns : goal.returns
-returns c = rw c.part.ensures
