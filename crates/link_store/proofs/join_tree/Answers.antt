@@ -1,12 +1,8 @@
 -- `join_tree` does its three parts in their order.
 use Rattle.std.specs.Prelude.{length}
-use Rattle.std.proofs.Common.{arith}
 use Rattle.table.specs.Lent.{parts_in, parts_in_mut}
 use Rattle.link_store.specs.JoinedTreeLaws.{tree_joined, sorted_same}
 use Rattle.link_store.proofs.join_tree.Goals as goal
-
-pub join_walk-requires : goal.join_walk-requires
-join_walk-requires c = record { fields = omega (arith, c.requires.holds.fields); numbers = omega (arith, c.requires.holds.numbers) }
 
 pub returns-clause-stored : goal.returns-clause-stored
 returns-clause-stored c = let a = c.args in

@@ -1,12 +1,8 @@
 -- `keep_parents` passes over the rows in use.
 use Rattle.std.specs.Prelude.{◌+◌, ◌-◌}
 use Rattle.std.proofs.Common.{◌∙◌, sym, add-one, arith}
-use native.Mathlib.Nat.{sub-zero}
 use Rattle.link_store.specs.DetachLaws.{kept_on, kept_end}
 use Rattle.link_store.proofs.detach.keep_parents.Goals as goal
-
-pub loop-w-init : goal.loop-w-init
-loop-w-init c = rw sub-zero
 
 pub loop-w-preserved : goal.loop-w-preserved
 loop-w-preserved c = let l = c.loop-w in let a = c.args in l.invariant ∙ kept_on a.ancestors.now a.tree l.fields _ (a.n - l.w) (a.n - (l.w + 1)) l.w (l.w + 1) (omega arith) (add-one l.w) c.keep_parent.ensures

@@ -1,13 +1,9 @@
 -- `part_rows` passes over the rows in use.
 use Rattle.std.specs.Prelude.{◌+◌, ◌-◌}
 use Rattle.std.proofs.Common.{◌∙◌, sym, add-one, arith}
-use native.Mathlib.Nat.{sub-zero}
 use Rattle.renumber.specs.NumberWalk.{written}
 use Rattle.link_store.specs.DetachLaws.{parted_on, parted_end}
 use Rattle.link_store.proofs.detach.part_rows.Goals as goal
-
-pub loop-row-init : goal.loop-row-init
-loop-row-init c = rw sub-zero
 
 pub loop-row-preserved : goal.loop-row-preserved
 loop-row-preserved c = let l = c.loop-row in let a = c.args in l.invariant ∙ parted_on a.tree (written l.fields l.numbers l.ancestors) _ (a.n - l.row) (a.n - (l.row + 1)) l.row (l.row + 1) (omega arith) (add-one l.row) c.part_row.ensures

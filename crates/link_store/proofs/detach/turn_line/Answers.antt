@@ -1,12 +1,8 @@
 -- `turn_line` goes up from row to row.
 use Rattle.std.specs.Prelude.{◌+◌, ◌-◌}
 use Rattle.std.proofs.Common.{◌∙◌, sym, arith}
-use native.Mathlib.Nat.{sub-zero}
 use Rattle.link_store.specs.DetachLaws.{turn_top, turn_on, turn_end}
 use Rattle.link_store.proofs.detach.turn_line.Goals as goal
-
-pub loop-init : goal.loop-init
-loop-init c = rw sub-zero
 
 pub returns-then-above : goal.returns-then-above
 returns-then-above c = let l = c.loop in let a = c.args in sym (l.invariant ∙ turn_top (a.n - l.counter) (a.n - (l.counter + 1)) l.fields _ l.z l.under (omega arith) c.field-above.ensures c.if-above.true c.put_field.ensures)

@@ -3,16 +3,13 @@ use Rattle.std.specs.Prelude.{◌≡◌}
 use Rattle.std.specs.Int.{w32}
 use mir.Val.{to_z, of_z}
 use Rattle.std.proofs.Common.{rules}
-use Rattle.table.specs.Lent.{parts_in, parts_in_mut}
-use Rattle.link_store.specs.WalkLaws.{join_out, join_at, holds_same}
+use Rattle.table.specs.Lent.{parts_in}
+use Rattle.link_store.specs.WalkLaws.{join_out, join_at}
 use Rattle.link_store.proofs.joins.join_row.Goals as goal
 
 pub returns-in_default-clause-stored : goal.returns-in_default-clause-stored
 returns-in_default-clause-stored c = let a = c.args in
     rw (← c.read-lent.ensures) (join_out (parts_in c.read-lent.result) a.n a.x a.door a.z c.field-v.ensures c.level_under.ensures c.in_default.is)
-
-pub plan_row-planned-requires : goal.plan_row-planned-requires
-plan_row-planned-requires c = holds_same (parts_in c.read-lent.result) (parts_in_mut c.args.parts.now) c.args.n c.read-lent.ensures c.requires
 
 pub returns-clause-stored : goal.returns-clause-stored
 returns-clause-stored c = let a = c.args in

@@ -1,20 +1,10 @@
 -- `join_walk` turns as its definition does.
-use Rattle.std.specs.Prelude.{refl, ◌+◌, ◌-◌, ◌*◌}
+use Rattle.std.specs.Prelude.{◌+◌, ◌-◌, ◌*◌}
 use Rattle.std.proofs.Common.{◌∙◌, sym, arith}
-use native.Mathlib.Nat.{sub-zero}
 use Rattle.table.specs.Lent.{parts_in_mut}
 use Rattle.link_store.specs.Sort.{cell_at}
 use Rattle.link_store.specs.WalkLaws.{walk_on, walk_end}
 use Rattle.link_store.proofs.joins.join_walk.Goals as goal
-
-pub loop-init : goal.loop-init
-loop-init c = (
-  record { fields = refl; numbers = refl },
-  (record { fields = refl; numbers = refl; levels = refl; ancestors = refl }, rw (sub-zero, c.cell.ensures)),
-)
-
-pub join_turn-j-requires : goal.join_turn-j-requires
-join_turn-j-requires c = let l = c.loop.invariant.0 in record { fields = omega (arith, c.requires.fields, l.fields); numbers = omega (arith, c.requires.numbers, l.numbers) }
 
 pub loop-preserved : goal.loop-preserved
 loop-preserved c = let l = c.loop in let a = c.args in let s = l.invariant.1.0 in let e = c.join_turn-j.ensures in (
