@@ -14,6 +14,7 @@ module _ (t : Parts) (w out : List ℕ) {r : ℕ} where
   growth_misfit o h e = rw h (off_length 4 out _ (outcome t w (misfit out)) e)
 
 module _ (t u : Parts) (w k out after : List ℕ) {r : ℕ} where
-  pub growth_served : (g : GrowthOutcome) (o : Growth) → length out ≡ 4 → reply r after ≡ grown_reply out g → growth.growth_result u k g ≡ o → outcome u k (reply r after) ≡ growth_call t w out o
+  -- u are the parts where the loan ends, v those that the call left
+  pub growth_served : {v : Parts} (g : GrowthOutcome) (o : Growth) → length out ≡ 4 → reply r after ≡ grown_reply out g → growth.growth_result v k g ≡ o → u ≡ v → outcome u k (reply r after) ≡ growth_call t w out o
   unfolding growth_call
-  growth_served g o e h a = rw (h, ← a) (on_length_lem 4 out (outcome u k (grown_reply out g)) _ e)
+  growth_served {v} g o e h a back = rw (h, back, ← a) (on_length_lem 4 out (outcome v k (grown_reply out g)) _ e)

@@ -1,7 +1,8 @@
 -- The calls that only read a table, by whether the out slice has its length, from what the call of the engine and the reply left.
-use Rattle.std.specs.Prelude.{◌≡◌, ◌≢◌, List, ℕ, ◌<◌, ℤ, length}
+use Rattle.std.specs.Prelude.{◌≡◌, ◌≢◌, Bool, Result, Ok, Err, List, ℕ, ◌<◌, ℤ, length}
 use Rattle.std.proofs.Math.Path.{refl, ap}
 use Rattle.std.proofs.Common.{arith}
+use Rattle.table.specs.declared.refusal.Refusal.{Refusal}
 use Rattle.table.specs.declared.state.State.{State}
 use Rattle.table.specs.Parts.{Parts}
 use Rattle.table.specs.Refusal.{number_of}
@@ -9,8 +10,6 @@ use Rattle.query.specs.Outcome.{Outcome as QuestionOutcome}
 use Rattle.query.specs.Question.{question}
 use Rattle.alike.specs.Outcome.{Outcome as AlikeOutcome}
 use Rattle.alike.specs.Alike.{alike}
-use Rattle.inspect.specs.declared.Inspected.{Inspected}
-use Rattle.inspect.specs.declared.Inspected.TheVariants.{Passes, Refused}
 use Rattle.inspect.specs.Outcome.{outcome_of as inspection_of}
 use Rattle.inspect.specs.Inspection.{inspection, Inspection}
 use Rattle.replies.specs.ReplyLaws.{on_length_lem, off_length}
@@ -41,13 +40,13 @@ module _ (t : Parts) (s : State) {r : ℕ} where
     unfolding inspection_call
     inspection_misfit h e = record { replied = rw h (off_length 1 out _ (misfit out) e); unchanged = λ _. refl }
 
-    pub inspection_served : (after left : List ℕ) (i : Inspected) → length out ≡ 1 → Inspection t w scratch s left i → reply r after ≡ inspection_reply out (inspection_of i) → InspectionCall t w out scratch s left (reply r after)
+    pub inspection_served : (after left : List ℕ) (i : Result Bool Refusal) → length out ≡ 1 → Inspection t w scratch s left i → reply r after ≡ inspection_reply out (inspection_of i) → InspectionCall t w out scratch s left (reply r after)
     unfolding inspection_call
     inspection_served after left i e q h = record {
       replied = rw (h, q.outcome) (on_length_lem 1 out (inspection_reply out (inspection t w (length scratch) s)) _ e);
       unchanged = go i q h;
     }
       where
-        go : (i : Inspected) → Inspection t w scratch s left i → reply r after ≡ inspection_reply out (inspection_of i) → 0 < r → left ≡ scratch
-        go (Passes b) q h l = let z : r ≡ 0 = ap (λ (p : Reply ℕ). p.number) h in absurd (omega arith)
-        go (Refused n) q h l = q.unchanged (number_of n) refl
+        go : (i : Result Bool Refusal) → Inspection t w scratch s left i → reply r after ≡ inspection_reply out (inspection_of i) → 0 < r → left ≡ scratch
+        go (Ok b) q h l = let z : r ≡ 0 = ap (λ (p : Reply ℕ). p.number) h in absurd (omega arith)
+        go (Err n) q h l = q.unchanged (number_of n) refl

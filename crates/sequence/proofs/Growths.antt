@@ -1,5 +1,5 @@
 -- A growth, where the table stands beside the plain list: served, and the table stands beside it again, or refused as it refuses.
-use Rattle.std.specs.Prelude.{◌≡◌, refl, Some, Result, Err, ℕ, suc, ◌≤◌, ◌<◌}
+use Rattle.std.specs.Prelude.{◌≡◌, refl, Some, Result as Fallible, Err, ℕ, suc, ◌≤◌, ◌<◌}
 use Rattle.std.proofs.Common.{sym, ap, ◌∙◌, arith, eq-eqb, ne_eqb, le-leb}
 use Rattle.std.proofs.Math.Decide.{dec_lt}
 use Rattle.std.proofs.lemmas.Bool.{lt-leb}
@@ -149,7 +149,7 @@ module _ {c : ℕ} {f : Fast} {p : PlainList} {stored : StoredList} {total joini
   pub fit : Some c ≡ capacity_of f.parts
   fit = sym (fits_told s.fits)
 
-  module _ (q : Call) (o : PlainOutcome) (scratch : ℕ) (z : Result Planned Refusal) where
+  module _ (q : Call) (o : PlainOutcome) (scratch : ℕ) (z : Fallible Planned Refusal) where
     abbrev GrowthStep : Type 0
     GrowthStep = StepStands c f p stored total joinings q o (after_growth f.state (grown_by f.parts f.tally scratch z))
 

@@ -1,4 +1,5 @@
 -- `nca_table_add_first`: the growth, then its reply.
+use Rattle.std.proofs.Common.{rules}
 use Rattle.table.specs.Parts.{parts_of}
 use Rattle.desk_growth.specs.GrowthCallsLaws.{growth_misfit, growth_served}
 use Rattle.desk_growth.proofs.nca_table_add_first.Goals as goal
@@ -8,4 +9,4 @@ returns-then-out-ne-GROWN_OUT c = let a = c.args in growth_misfit (parts_of a.fi
 
 pub returns : goal.returns
 returns c = let a = c.args in
-    growth_served (parts_of a.fields.now a.numbers.now a.levels.now a.ancestors.now) _ a.tally.now _ a.out.now _ _ _ c.if-out-ne-GROWN_OUT.false c.reply_grown.ensures c.add_first-grown.ensures.grown
+    growth_served (parts_of a.fields.now a.numbers.now a.levels.now a.ancestors.now) _ a.tally.now _ a.out.now _ _ _ c.if-out-ne-GROWN_OUT.false c.reply_grown.ensures c.add_first-grown.ensures.grown (search rules)
