@@ -14,17 +14,18 @@ use Rattle.replies.specs.ReplyLaws.{tree_misfit, out_misfit, both_fit}
 use Rattle.byte_replies.specs.ByteReply.{grown_bytes}
 use Rattle.desk_tree_growth.specs.TreeGrowthCalls.{outcome, tree_after, GrownHeld, GrowthHeld, after_growth, on_lengths, leaf_tree, root_tree}
 
+-- t are the parts that are written back, here and below, `left` those that the call left
 module _ (b after : List ℕ) (u t : Parts) (v w : List ℕ) (s : State) (g : GrowthOutcome) (i : u ≡ parts_in b) (l : v ≡ tally_in b) (j : s ≡ state_in b)
     (h : GrownHeld after t w g) where
-  pub leaf_held : (parent label face : ℕ) → growth.growth_result t w g ≡ add_leaf u v least_scratch s parent label face → GrowthHeld after (add_leaf (parts_in b) (tally_in b) least_scratch (state_in b) parent label face)
-  leaf_held parent label face q =
-      let z : growth.growth_result t w g ≡ add_leaf (parts_in b) (tally_in b) least_scratch (state_in b) parent label face = q ∙ rw (i, l, j) in
+  pub leaf_held : {left : Parts} (parent label face : ℕ) → growth.growth_result left w g ≡ add_leaf u v least_scratch s parent label face → t ≡ left → GrowthHeld after (add_leaf (parts_in b) (tally_in b) least_scratch (state_in b) parent label face)
+  leaf_held parent label face q back =
+      let z : growth.growth_result t w g ≡ add_leaf (parts_in b) (tally_in b) least_scratch (state_in b) parent label face = ap (λ x. growth.growth_result x w g) back ∙ q ∙ rw (i, l, j) in
       subst (λ (o : Growth). GrowthHeld after o) z h
 
-  pub root_held : (named : Bool) (opening : ℕ) → growth.growth_result t w g ≡ add_root u v least_scratch s named opening
+  pub root_held : {left : Parts} (named : Bool) (opening : ℕ) → growth.growth_result left w g ≡ add_root u v least_scratch s named opening → t ≡ left
       → GrowthHeld after (add_root (parts_in b) (tally_in b) least_scratch (state_in b) named opening)
-  root_held named opening q =
-      let z : growth.growth_result t w g ≡ add_root (parts_in b) (tally_in b) least_scratch (state_in b) named opening = q ∙ rw (i, l, j) in
+  root_held named opening q back =
+      let z : growth.growth_result t w g ≡ add_root (parts_in b) (tally_in b) least_scratch (state_in b) named opening = ap (λ x. growth.growth_result x w g) back ∙ q ∙ rw (i, l, j) in
       subst (λ (o : Growth). GrowthHeld after o) z h
 
 module _ (b out : List ℕ) {r : ℕ} where
@@ -55,9 +56,9 @@ module _ (b out : List ℕ) {r : ℕ} where
     kept : outcome after (reply r out_after) ≡ on_lengths b out (growth.growth_result t w g)
     kept = rw (k, h) (both_fit tree_bytes b out 6 (outcome (tree_after b t w g) (grown_bytes out g)) (outcome b (misfit out)) e f)
 
-    pub leaf_kept : (parent label face : ℕ) → growth.growth_result t w g ≡ add_leaf u v least_scratch s parent label face → outcome after (reply r out_after) ≡ leaf_tree b out parent label face
+    pub leaf_kept : {left : Parts} (parent label face : ℕ) → growth.growth_result left w g ≡ add_leaf u v least_scratch s parent label face → t ≡ left → outcome after (reply r out_after) ≡ leaf_tree b out parent label face
     unfolding leaf_tree
-    leaf_kept parent label face q = let z : growth.growth_result t w g ≡ add_leaf (parts_in b) (tally_in b) least_scratch (state_in b) parent label face = q ∙ rw (i, l, j) in kept ∙ ap (on_lengths b out) z
+    leaf_kept parent label face q back = let z : growth.growth_result t w g ≡ add_leaf (parts_in b) (tally_in b) least_scratch (state_in b) parent label face = ap (λ x. growth.growth_result x w g) back ∙ q ∙ rw (i, l, j) in kept ∙ ap (on_lengths b out) z
 
     pub root_kept : (named : Bool) (opening : ℕ) → growth.growth_result t w g ≡ add_root u v least_scratch s named opening
         → outcome after (reply r out_after) ≡ root_tree b out named opening

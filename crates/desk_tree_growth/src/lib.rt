@@ -74,7 +74,13 @@ pub extern "C" fn nca_add_leaf(
     let scratch = [0u16; LEAST_SCRATCH];
     let state = read_state(tree);
     let grown = growth::add_leaf(&mut parts, &mut tally, &scratch, state, parent, label, face);
-    keep_grown(tree, &parts.read(), &tally, &grown);
+    let parts = Parts {
+        fields: &fields,
+        numbers: &numbers,
+        levels: &levels,
+        ancestors: &ancestors,
+    };
+    keep_grown(tree, &parts, &tally, &grown);
     reply_grown(grown, out)
 }
 
@@ -108,6 +114,12 @@ pub extern "C" fn nca_add_root(tree: &mut [u8], named: u16, opening: u16, out: &
     let state = read_state(tree);
     let over = (named != 0).then_some(opening);
     let grown = growth::add_root(&mut parts, &mut tally, &scratch, state, over);
-    keep_grown(tree, &parts.read(), &tally, &grown);
+    let parts = Parts {
+        fields: &fields,
+        numbers: &numbers,
+        levels: &levels,
+        ancestors: &ancestors,
+    };
+    keep_grown(tree, &parts, &tally, &grown);
     reply_grown(grown, out)
 }

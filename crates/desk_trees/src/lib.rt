@@ -64,7 +64,13 @@ pub extern "C" fn nca_set_up(tree: &mut [u8]) -> u16
     let mut tally = [0u16; TALLY_COUNT];
     read_tally(tree, &mut tally);
     let made = set_up::set_up(&mut parts, &mut tally);
-    keep_made(tree, &parts.read(), &tally, made)
+    let parts = Parts {
+        fields: &fields,
+        numbers: &numbers,
+        levels: &levels,
+        ancestors: &ancestors,
+    };
+    keep_made(tree, &parts, &tally, made)
 }
 
 // The characteristic ancestors of x and y. Out: nearest common ancestor, branches towards x and y, distances of x and y, label.

@@ -25,17 +25,17 @@ growth_report : (q : Call) (t : Parts) (w : List ℕ) (s : State) (g : Outcome) 
     → report_of t w r ≡ report_by q (after_growth s (growth_result t w g))
 growth_report q t w s g r o = rw (o.shown, o.rows, o.state)
 
--- from the parts t and the tally w to u and w'
+-- from the parts t and the tally w to u and w'; v are the parts that the call left
 module _ (t u : Parts) (w w' : List ℕ) (s : State) (g : Outcome) (r : Served) where
-  pub leaf_report : (v l a : ℕ) (scratch : List ℕ) → growth_result u w' g ≡ add_leaf t w (length scratch) s v l a → OfGrowth (letter_of (leaf v l a scratch)) u s g r
-      → report_of u w' r ≡ report (fast_of t w s) (leaf v l a scratch)
+  pub leaf_report : {v : Parts} (x l a : ℕ) (scratch : List ℕ) → growth_result v w' g ≡ add_leaf t w (length scratch) s x l a → OfGrowth (letter_of (leaf x l a scratch)) v s g r
+      → u ≡ v → report_of u w' r ≡ report (fast_of t w s) (leaf x l a scratch)
   unfolding report step
-  leaf_report v l a scratch e o = rw (← e) (growth_report (leaf v l a scratch) u w' s g r o)
+  leaf_report {v} x l a scratch e o back = rw (back, ← e) (growth_report (leaf x l a scratch) v w' s g r o)
 
-  pub root_report : (named : Bool) (opening : ℕ) (scratch : List ℕ) → growth_result u w' g ≡ add_root t w (length scratch) s named opening
-      → OfGrowth (letter_of (root named opening scratch)) u s g r → report_of u w' r ≡ report (fast_of t w s) (root named opening scratch)
+  pub root_report : {v : Parts} (named : Bool) (opening : ℕ) (scratch : List ℕ) → growth_result v w' g ≡ add_root t w (length scratch) s named opening
+      → OfGrowth (letter_of (root named opening scratch)) v s g r → u ≡ v → report_of u w' r ≡ report (fast_of t w s) (root named opening scratch)
   unfolding report step
-  root_report named opening scratch e o = rw (← e) (growth_report (root named opening scratch) u w' s g r o)
+  root_report {v} named opening scratch e o back = rw (back, ← e) (growth_report (root named opening scratch) v w' s g r o)
 
 -- a question or alike, which changes nothing, prints no level and renumbers no row
 

@@ -55,7 +55,7 @@ pub fn serve_leaf(
     ensures loans { SameLoans parts.old parts.new }
 {
     let g = add_leaf(parts, tally, scratch, state, parent, label, face);
-    after_growth(b'L', parts.levels, state, g)
+    after_growth(b'L', parts.read().levels, state, g)
 }
 
 pub fn serve_root(
@@ -69,7 +69,7 @@ pub fn serve_root(
     ensures loans { SameLoans parts.old parts.new }
 {
     let g = add_root(parts, tally, scratch, state, opening);
-    after_growth(b'T', parts.levels, state, g)
+    after_growth(b'T', parts.read().levels, state, g)
 }
 
 // The tally is not lent; whatever it is, it stays.

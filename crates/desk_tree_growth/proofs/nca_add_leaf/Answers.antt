@@ -17,4 +17,4 @@ pub reply_grown-requires : goal.reply_grown-requires
 reply_grown-requires c = c.if-out-ne-GROWN_OUT.false
 
 pub returns : goal.returns
-returns c = let a = c.args in record { answer = leaf_kept a.tree.now a.out.now _ _ _ _ _ _ _ _ c.if-tree-ne-BYTES.false c.if-out-ne-GROWN_OUT.false c.read_parts.ensures.held c.read_tally.ensures c.read_state-state.ensures c.keep_grown.ensures.tree c.reply_grown.ensures a.parent a.label a.face c.add_leaf-grown.ensures.grown; held = λ _. leaf_held a.tree.now _ _ _ _ _ _ _ c.read_parts.ensures.held c.read_tally.ensures c.read_state-state.ensures c.keep_grown.ensures.held a.parent a.label a.face c.add_leaf-grown.ensures.grown }
+returns c = let a = c.args in record { answer = leaf_kept a.tree.now a.out.now _ _ _ _ _ _ _ _ c.if-tree-ne-BYTES.false c.if-out-ne-GROWN_OUT.false c.read_parts.ensures.held c.read_tally.ensures c.read_state-state.ensures c.keep_grown.ensures.tree c.reply_grown.ensures a.parent a.label a.face c.add_leaf-grown.ensures.grown (search rules); held = λ _. leaf_held a.tree.now _ _ _ _ _ _ _ c.read_parts.ensures.held c.read_tally.ensures c.read_state-state.ensures c.keep_grown.ensures.held a.parent a.label a.face c.add_leaf-grown.ensures.grown (search rules) }

@@ -1,4 +1,5 @@
 -- `nca_query`: the question to what the bytes hold, then the reply.
+use Rattle.std.proofs.Common.{◌∙◌}
 use Rattle.desk_trees.specs.TreeCallsLaws.{question_tree_misfit, question_out_misfit, question_answered}
 use Rattle.desk_trees.proofs.nca_query.Goals as goal
 
@@ -10,4 +11,4 @@ returns-then-out-ne-ANSWERED_OUT c = question_out_misfit c.args.tree.now c.args.
 
 pub returns : goal.returns
 returns c = let a = c.args in
-    question_answered a.tree.now a.out.now a.x a.y _ _ _ _ c.if-tree-ne-BYTES.false c.if-out-ne-ANSWERED_OUT.false c.read_parts.ensures.held c.read_state-state.ensures c.characteristic_ancestors-answered.ensures c.reply_answered.ensures
+    question_answered a.tree.now a.out.now a.x a.y _ _ _ _ c.if-tree-ne-BYTES.false c.if-out-ne-ANSWERED_OUT.false (c.read.ensures ∙ c.read_parts.ensures.held) c.read_state-state.ensures c.characteristic_ancestors-answered.ensures c.reply_answered.ensures

@@ -1,4 +1,7 @@
 -- `serve_leaf` is the report of a leaf.
+use Rattle.std.proofs.Common.{ap, sym, ◌∙◌}
+use Rattle.growth.specs.Outcome.{outcome_of}
+use Rattle.growth.specs.Growth.{growth_result}
 use Rattle.table.specs.Lent.{parts_in_mut}
 use Rattle.report.specs.ReportLaws.{leaf_report}
 use Rattle.report.proofs.serve.serve_leaf.Goals as goal
@@ -7,5 +10,5 @@ pub returns-clause-report : goal.returns-clause-report
 returns-clause-report c =
     let a = c.args in
     let o = c.after_growth.ensures in
-    leaf_report (parts_in_mut a.parts.now) _ a.tally.now _ a.state _ c.after_growth.result a.parent a.label a.face a.scratch.now c.add_leaf-g.ensures.grown
-    (record { shown = o.shown; rows = o.rows; state = o.state })
+    leaf_report (parts_in_mut a.parts.now) _ a.tally.now _ a.state _ c.after_growth.result a.parent a.label a.face a.scratch.now (ap (λ v. growth_result v c.add_leaf-g.new.tally (outcome_of c.add_leaf-g.result)) c.read.ensures ∙ c.add_leaf-g.ensures.grown)
+    (record { shown = o.shown; rows = o.rows; state = o.state }) (sym c.read.ensures)
