@@ -9,7 +9,7 @@ unfolding served
 returns-then-not-is_row c = rw (sym c.is_row.ensures ∙ c.if-not-is_row.true)
 
 pub walked-requires : goal.walked-requires
-walked-requires c = record { held = c.requires; row = is_row_lem _ _ _ (sym c.is_row.ensures ∙ c.if-not-is_row.false) }
+walked-requires c = is_row_lem _ _ _ (sym c.is_row.ensures ∙ c.if-not-is_row.false)
 
 pub returns : goal.returns
 unfolding served

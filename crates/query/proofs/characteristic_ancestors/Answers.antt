@@ -9,8 +9,8 @@ pub returns-in_err-root : goal.returns-in_err-root
 returns-in_err-root c =
     let p = err_from_is_err_and c.from_residual.result c.from_residual.ensures.1 in rw (p.1, p.2) (question_by _ _ _ _ c.in_err-root.ensures)
 
-pub served-requires : goal.served-requires
-served-requires c = root_held _ _ _ _ _ (sym c.in_ok-root.ensures)
+pub invariant_of-t : goal.invariant_of-t
+invariant_of-t c = record { held = root_held _ _ _ _ _ (sym c.in_ok-root.ensures) }
 
 pub returns : goal.returns
 returns c = c.served.ensures ∙ question_by _ _ _ _ c.in_ok-root.ensures

@@ -17,7 +17,7 @@ returns-then-not-is_node-2 c = let x = sym c.is_node.ensures ∙ c.if-not-is_nod
 
 pub plain_answer-requires : goal.plain_answer-requires
 plain_answer-requires c = let x = is_node_lem _ _ _ _ (sym c.is_node.ensures ∙ c.if-not-is_node.false) in
-    let y = is_node_lem _ _ _ _ (sym c.is_node-2.ensures ∙ c.if-not-is_node-2.false) in record { held = c.requires; asked = record { left = x.row; right = y.row } }
+    let y = is_node_lem _ _ _ _ (sym c.is_node-2.ensures ∙ c.if-not-is_node-2.false) in record { left = x.row; right = y.row }
 
 pub returns-in_default : goal.returns-in_default
 returns-in_default c = let x = sym c.is_node.ensures ∙ c.if-not-is_node.false in
@@ -27,7 +27,7 @@ returns-in_default c = let x = sym c.is_node.ensures ∙ c.if-not-is_node.false 
 pub has_level-requires : goal.has_level-requires
 has_level-requires c = let x = is_node_lem _ _ _ _ (sym c.is_node.ensures ∙ c.if-not-is_node.false) in
     let y = is_node_lem _ _ _ _ (sym c.is_node-2.ensures ∙ c.if-not-is_node-2.false) in
-    let h = c.requires in
+    let h = c.args.t.now.held in
     let row = if_some _ c.in-Some.ensures (plain_row _ _ (answer_row _) _ _ _ record { left = x.row; right = y.row }) in
     omega (arith, h.levels, row.in_use)
 
@@ -39,7 +39,7 @@ returns-then-not-has_level c = let x = sym c.is_node.ensures ∙ c.if-not-is_nod
 pub answer_of-requires : goal.answer_of-requires
 answer_of-requires c = let x = is_node_lem _ _ _ _ (sym c.is_node.ensures ∙ c.if-not-is_node.false) in
     let y = is_node_lem _ _ _ _ (sym c.is_node-2.ensures ∙ c.if-not-is_node-2.false) in
-    let h = c.requires in
+    let h = c.args.t.now.held in
     let level = says_get (says_leb _ _) (sym c.has_level.ensures ∙ c.if-not-has_level.false) in
     let row = if_some _ c.in-Some.ensures (plain_row _ _ (answer_row _) _ _ _ record { left = x.row; right = y.row }) in
     record {

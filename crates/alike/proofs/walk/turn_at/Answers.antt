@@ -46,10 +46,10 @@ returns-then-not-are_marked_alike c = let a = c.args in
     )
 
 pub plain_parent-requires : goal.plain_parent-requires
-plain_parent-requires c = let x = is_node_lem _ _ _ _ (sym c.is_node.ensures ∙ c.if-not-is_node.false) in record { held = c.requires.held; row = c.requires.row; row_2 = x.row }
+plain_parent-requires c = let x = is_node_lem _ _ _ _ (sym c.is_node.ensures ∙ c.if-not-is_node.false) in record { row = c.requires; row_2 = x.row }
 
 pub plain_parent-requires-2 : goal.plain_parent-requires-2
-plain_parent-requires-2 c = let y = is_node_lem _ _ _ _ (sym c.is_node-2.ensures ∙ c.if-not-is_node-2.false) in record { held = c.requires.held; row = c.requires.row; row_2 = y.row }
+plain_parent-requires-2 c = let y = is_node_lem _ _ _ _ (sym c.is_node-2.ensures ∙ c.if-not-is_node-2.false) in record { row = c.requires; row_2 = y.row }
 
 pub returns : goal.returns
 unfolding turn_at

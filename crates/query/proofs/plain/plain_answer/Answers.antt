@@ -8,7 +8,7 @@ unfolding plain_answer
 returns-in_err-f c = rw (c.from_residual.ensures, ← c.in_err-f.ensures)
 
 pub plain_from-requires-clause-row : goal.plain_from-requires-clause-row
-plain_from-requires-clause-row c = if_some _ c.in_ok-f.ensures (answer_row _ _ _ c.requires.asked)
+plain_from-requires-clause-row c = if_some _ c.in_ok-f.ensures (answer_row _ _ _ c.requires)
 
 pub returns : goal.returns
 unfolding plain_answer
