@@ -60,9 +60,9 @@ module _ (b out : List ℕ) {r : ℕ} where
     unfolding leaf_tree
     leaf_kept parent label face q back = let z : growth.growth_result t w g ≡ add_leaf (parts_in b) (tally_in b) least_scratch (state_in b) parent label face = ap (λ x. growth.growth_result x w g) back ∙ q ∙ rw (i, l, j) in kept ∙ ap (on_lengths b out) z
 
-    pub root_kept : (named : Bool) (opening : ℕ) → growth.growth_result t w g ≡ add_root u v least_scratch s named opening
+    pub root_kept : {left : Parts} (named : Bool) (opening : ℕ) → growth.growth_result left w g ≡ add_root u v least_scratch s named opening → t ≡ left
         → outcome after (reply r out_after) ≡ root_tree b out named opening
     unfolding root_tree
-    root_kept named opening q =
-        let z : growth.growth_result t w g ≡ add_root (parts_in b) (tally_in b) least_scratch (state_in b) named opening = q ∙ rw (i, l, j) in
+    root_kept named opening q back =
+        let z : growth.growth_result t w g ≡ add_root (parts_in b) (tally_in b) least_scratch (state_in b) named opening = ap (λ x. growth.growth_result x w g) back ∙ q ∙ rw (i, l, j) in
         kept ∙ ap (on_lengths b out) z

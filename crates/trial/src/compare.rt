@@ -35,7 +35,7 @@ fn refusal(tree: &Tree, x: u16, y: u16) -> Option<Refusal> {
 }
 
 // Whether what was found is the naive answer, by this test, or the plain list's refusal.
-fn agrees<T, F: FnOnce(T) -> bool>(
+fn agrees<T: Drop, F: FnOnce(T) -> bool>(
     refusal: Option<Refusal>,
     found: Result<T, Refusal>,
     is_right: F,

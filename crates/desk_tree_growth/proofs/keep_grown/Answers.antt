@@ -13,5 +13,5 @@ returns-in-Ok c =
           c.write_tree.ensures.bytes c.write_tree.ensures.range);
     }
 
-pub returns-in-Err : goal.returns-in-Err
-returns-in-Err c = record { tree = rw c.in-Err.is; held = rw c.in-Err.is tt }
+pub returns-in_default : goal.returns-in_default
+returns-in_default c = record { tree = rw c.in_default.is; held = rw c.in_default.is tt }
