@@ -39,7 +39,9 @@ fn agrees<T: Drop, F: FnOnce(T) -> bool>(
     refusal: Option<Refusal>,
     found: Result<T, Refusal>,
     is_right: F,
-) -> bool {
+) -> bool
+    requires { F.IsAlwaysCallable is_right }
+{
     match found {
         Ok(answer) => refusal.is_none() && is_right(answer),
         Err(r) => refusal == Some(r),

@@ -18,5 +18,5 @@ returns c =
     let n = length a.scratch.now in
     let o = c.then_some-over.result in
     let told : add_over t a.tally.now n (state_of a.count) a.x (is_some o) (unwrap_or o 0) ≡ add_over t a.tally.now n (state_of a.count) a.x (is_named a.named) a.opening =
-        rw c.then_some-over.ensures (over_told t a.tally.now n (state_of a.count) a.x (is_named a.named) a.opening) in
+    rw c.then_some-over.ensures (over_told t a.tally.now n (state_of a.count) a.x (is_named a.named) a.opening) in
     growth_served t _ a.tally.now _ a.out.now _ _ _ c.if-out-ne-GROWN_OUT.false c.reply_grown.ensures (c.add_root_over-grown.ensures.grown ∙ told) (search rules)
