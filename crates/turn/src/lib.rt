@@ -2,7 +2,7 @@
 
 #![tactic(auto)]
 
-ghost use Rattle.std.specs.Prelude.{◌≡◌, List, ℕ, ◌+◌, ◌≤◌};
+ghost use Rattle.std.specs.Prelude.{◌≡◌, List, ℕ, ◌+◌, ◌≤◌, not, eqb};
 ghost use Rattle.log_fields.specs.Fault.{number_of};
 ghost use Rattle.table.specs.Lent.{SameLoans, parts_in_mut};
 ghost use Rattle.table.specs.Parts.{Parts};
@@ -56,6 +56,16 @@ fn silent_turn(reading: Reading, place: usize, ordinal: u32, on: bool) -> Turn
     }
 }
 
+// Whether the reading goes on after a field that is refused: not after one that is cut short.
+fn goes_on(fault: Fault) -> bool
+    ensures { result ≡ not (eqb (number_of fault) 8) }
+{
+    match fault {
+        Fault::Truncated => false,
+        Fault::BadTag | Fault::BadLength | Fault::DirtyFiller => true,
+    }
+}
+
 // A refusal of the reader.
 fn refused_turn(reading: Reading, fault: Fault, next: usize) -> Turn
     requires { Small reading }
@@ -72,7 +82,7 @@ fn refused_turn(reading: Reading, fault: Fault, next: usize) -> Turn
             ordinal: reading.ordinal + 1,
             total: reading.total,
             state,
-            on: fault != Fault::Truncated,
+            on: goes_on(fault),
         },
     }
 }

@@ -1,5 +1,7 @@
 -- `take_turn` goes by the case of the field.
-use Rattle.std.proofs.Common.{◌∙◌, refl}
+use Rattle.std.proofs.Common.{◌∙◌, ◌≡◌, refl, subst}
+use Rattle.sequence.specs.Calls.{question, alike}
+use Rattle.report.specs.Report.{report, report_of, fast_of}
 use Rattle.table.specs.Lent.{parts_in_mut}
 use Rattle.turn.specs.Session.{session_of}
 use Rattle.turn.specs.SessionLaws.{step_from, served_from, root_from}
@@ -39,10 +41,10 @@ pub returns-in-Question-clause-step : goal.returns-in-Question-clause-step
 returns-in-Question-clause-step c =
     let a = c.args in
     let t = parts_in_mut a.parts.now in
-    served_from a.log.now a.scratch.now (session_of t a.tally.now a.reading) c.read_at-found.result c.read_at-found.ensures _ c.in-Question.is refl (c.served_turn-in-Question.ensures.step _ _) (c.serve_question-served.ensures _)
+    served_from a.log.now a.scratch.now (session_of t a.tally.now a.reading) c.read_at-found.result c.read_at-found.ensures _ c.in-Question.is refl (c.served_turn-in-Question.ensures.step _ _) (subst (λ u. report_of u a.tally.now c.serve_question-served.result ≡ report (fast_of u a.tally.now a.reading.state) (question c.in-Question.x c.in-Question.y)) c.read.ensures (c.serve_question-served.ensures a.tally.now))
 
 pub returns-in-Alike-clause-step : goal.returns-in-Alike-clause-step
 returns-in-Alike-clause-step c =
     let a = c.args in
     let t = parts_in_mut a.parts.now in
-    served_from a.log.now a.scratch.now (session_of t a.tally.now a.reading) c.read_at-found.result c.read_at-found.ensures _ c.in-Alike.is refl (c.served_turn-in-Alike.ensures.step _ _) (c.serve_alike-served.ensures _)
+    served_from a.log.now a.scratch.now (session_of t a.tally.now a.reading) c.read_at-found.result c.read_at-found.ensures _ c.in-Alike.is refl (c.served_turn-in-Alike.ensures.step _ _) (subst (λ u. report_of u a.tally.now c.serve_alike-served.result ≡ report (fast_of u a.tally.now a.reading.state) (alike c.in-Alike.x c.in-Alike.y)) c.read-in-Alike.ensures (c.serve_alike-served.ensures a.tally.now))
