@@ -7,7 +7,7 @@ use crate::Text;
 impl Text {
     // No byte yet.
     #[tactic(auto, unfolding(crate::specs::Text::text_of))]
-    pub fn empty() -> Text
+    pub(crate) fn empty() -> Text
         ensures { result ≡ text_of [] }
     {
         Text {
@@ -18,7 +18,7 @@ impl Text {
 
     // One byte more, where there is room.
     #[tactic(auto, using(crate::specs::TextLaws::push_room, crate::specs::TextLaws::push_full))]
-    pub fn put_byte(&mut self, b: u8)
+    pub(crate) fn put_byte(&mut self, b: u8)
         ensures { self.new ≡ push self.old b }
     {
         if self.len < 96 {
@@ -28,7 +28,7 @@ impl Text {
     }
 
     // Bytes more, one after another.
-    pub fn put_bytes(&mut self, bytes: &[u8])
+    pub(crate) fn put_bytes(&mut self, bytes: &[u8])
         ensures { self.new ≡ append self.old bytes.now }
     {
         for b in bytes {

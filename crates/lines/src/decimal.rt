@@ -16,7 +16,7 @@ impl Text {
 
     // The number's digits: those of its tenth, and its last.
     #[tactic(auto, using(crate::specs::TextLaws::append_one, crate::specs::TextLaws::append_more))]
-    pub fn put_number(&mut self, n: u32)
+    pub(crate) fn put_number(&mut self, n: u32)
         ensures { self.new ≡ append self.old (digits n) }
     {
         if n < 10 {
@@ -27,7 +27,7 @@ impl Text {
     }
 
     // The number's digits, after a minus sign where it is below zero.
-    pub fn put_signed(&mut self, v: i32)
+    pub(crate) fn put_signed(&mut self, v: i32)
         ensures { self.new ≡ append self.old (signed v) }
     {
         if v < 0 {
