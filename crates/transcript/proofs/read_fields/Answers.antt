@@ -2,7 +2,7 @@
 use Rattle.std.proofs.Common.{arith}
 use Rattle.table.specs.Lent.{parts_in_mut}
 use Rattle.turn.specs.Session.{session_of}
-use Rattle.transcript.specs.TranscriptLaws.{come_first, come_small, come_turn, turn_falls, come_last}
+use Rattle.transcript.specs.TranscriptLaws.{come_first, come_turn, turn_falls, come_last}
 use Rattle.transcript.proofs.read_fields.Goals as goal
 
 pub loop-reading-init : goal.loop-reading-init

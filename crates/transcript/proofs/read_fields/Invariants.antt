@@ -1,5 +1,4 @@
 -- `read_fields`: the lines so far and those to come make the whole; the place, or whether the reading goes on, falls short with each field.
-use Rattle.std.proofs.Common.{◌≡◌, length}
 use Rattle.table.specs.Lent.{parts_in_mut}
 use Rattle.turn.specs.Session.{session_of}
 use Rattle.transcript.specs.PlaceLaws.{left}
