@@ -2,37 +2,36 @@
 
 #![tactic(auto)]
 
-ghost use Rattle.std.specs.Prelude.{◌≡◌, length};
+ghost use Rattle.std.specs.Prelude.{◌≡◌, Ok, length};
 ghost use Rattle.growth.specs.Outcome.{outcome_of as growth_of};
 ghost use Rattle.query.specs.Outcome.{outcome_of};
-ghost use Rattle.query.specs.declared.Answered.TheVariants as answered;
 ghost use Rattle.replies.specs.Reply.{reply};
 ghost use Rattle.byte_replies.specs.ByteReply.{grown_bytes, question_bytes};
 
 use byte_numbers::sign::to_bits;
 use byte_numbers::word::{put16, put32};
-use growth::Grown;
-use query::{Answer, Answered};
-use table::refusal::number_of;
+use growth::Growth;
+use query::Answer;
+use table::refusal::Refusal;
 
-pub fn reply_grown(grown: Grown, out: &mut [u8]) -> u16
+pub fn reply_grown(grown: Result<Growth, Refusal>, out: &mut [u8]) -> u16
     requires { length out.old ≡ 6 }
     ensures { reply result out.new ≡ grown_bytes out.old (growth_of grown) }
 {
     match grown {
-        Grown::Node(g) => {
+        Ok(g) => {
             put16(out, 0, g.node);
             put16(out, 2, g.rows);
             put16(out, 4, g.head);
             0
         }
-        Grown::Refused(r) => number_of(r),
+        Err(r) => u16::from(r),
     }
 }
 
 fn put_answer(a: Answer, out: &mut [u8])
     requires { length out.old ≡ 16 }
-    ensures { reply 0 out.new ≡ question_bytes out.old (outcome_of (answered.Answer a)) }
+    ensures { reply 0 out.new ≡ question_bytes out.old (outcome_of (Ok a)) }
 {
     put16(out, 0, a.nca);
     put16(out, 2, a.to_x);
@@ -42,15 +41,15 @@ fn put_answer(a: Answer, out: &mut [u8])
     put16(out, 14, a.label);
 }
 
-pub fn reply_answered(answered: Answered, out: &mut [u8]) -> u16
+pub fn reply_answered(answered: Result<Answer, Refusal>, out: &mut [u8]) -> u16
     requires { length out.old ≡ 16 }
     ensures { reply result out.new ≡ question_bytes out.old (outcome_of answered) }
 {
     match answered {
-        Answered::Answer(a) => {
+        Ok(a) => {
             put_answer(a, out);
             0
         }
-        Answered::Refused(r) => number_of(r),
+        Err(r) => u16::from(r),
     }
 }

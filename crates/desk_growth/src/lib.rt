@@ -9,7 +9,8 @@ ghost use Rattle.replies.specs.Reply.{state_of, is_named, reply, outcome};
 ghost use Rattle.desk_growth.specs.GrowthCalls.{first_call, leaf_call, root_call};
 
 use replies::reply_grown;
-use table::refusal::{Refusal, number_of};
+use table::parts::PartsMut;
+use table::refusal::Refusal;
 use table::state::State;
 
 // How many values a growth has for its out slice.
@@ -30,10 +31,16 @@ pub extern "C" fn nca_table_add_first(
     ensures { outcome (parts_of fields.new numbers.new levels.new ancestors.new) tally.new (reply result out.new) ≡ first_call (parts_of fields.old numbers.old levels.old ancestors.old) tally.old out.old (length scratch.now) (state_of count) }
 {
     if out.len() != GROWN_OUT {
-        return number_of(Refusal::Misfit);
+        return u16::from(Refusal::Misfit);
     }
-    let state = State { count: count };
-    let grown = growth::add_first(fields, numbers, levels, ancestors, tally, scratch, state);
+    let state = State { count };
+    let mut parts = PartsMut {
+        fields,
+        numbers,
+        levels,
+        ancestors,
+    };
+    let grown = growth::add_first(&mut parts, tally, scratch, state);
     reply_grown(grown, out)
 }
 
@@ -55,12 +62,16 @@ pub extern "C" fn nca_table_add_leaf(
     ensures { outcome (parts_of fields.new numbers.new levels.new ancestors.new) tally.new (reply result out.new) ≡ leaf_call (parts_of fields.old numbers.old levels.old ancestors.old) tally.old out.old (length scratch.now) (state_of count) parent label face }
 {
     if out.len() != GROWN_OUT {
-        return number_of(Refusal::Misfit);
+        return u16::from(Refusal::Misfit);
     }
-    let state = State { count: count };
-    let grown = growth::add_leaf(
-        fields, numbers, levels, ancestors, tally, scratch, state, parent, label, face,
-    );
+    let state = State { count };
+    let mut parts = PartsMut {
+        fields,
+        numbers,
+        levels,
+        ancestors,
+    };
+    let grown = growth::add_leaf(&mut parts, tally, scratch, state, parent, label, face);
     reply_grown(grown, out)
 }
 
@@ -82,20 +93,16 @@ pub extern "C" fn nca_table_add_root(
     ensures { outcome (parts_of fields.new numbers.new levels.new ancestors.new) tally.new (reply result out.new) ≡ root_call (parts_of fields.old numbers.old levels.old ancestors.old) tally.old out.old (length scratch.now) (state_of count) x (is_named named) opening }
 {
     if out.len() != GROWN_OUT {
-        return number_of(Refusal::Misfit);
+        return u16::from(Refusal::Misfit);
     }
-    let state = State { count: count };
-    let grown = growth::add_root_over(
+    let state = State { count };
+    let mut parts = PartsMut {
         fields,
         numbers,
         levels,
         ancestors,
-        tally,
-        scratch,
-        state,
-        x,
-        named != 0,
-        opening,
-    );
+    };
+    let over = (named != 0).then_some(opening);
+    let grown = growth::add_root_over(&mut parts, tally, scratch, state, x, over);
     reply_grown(grown, out)
 }

@@ -10,7 +10,8 @@ ghost use Rattle.desk_log.specs.LogCalls.{field_reply, field_call};
 
 use log_fields::{Field, next_at};
 use reader::read_at;
-use table::refusal::{Refusal, number_of};
+use replies::served;
+use table::refusal::Refusal;
 
 // How many values a field has for its out slice.
 const FIELD_OUT: usize = 4;
@@ -20,11 +21,7 @@ fn put_field(out: &mut [u16], kind: u16, first: u16, second: u16, third: u16) ->
     requires { length out.old ≡ 4 }
     ensures { reply result out.new ≡ reply 0 (kind ∷ first ∷ second ∷ third ∷ []) }
 {
-    out[0] = kind;
-    out[1] = first;
-    out[2] = second;
-    out[3] = third;
-    0
+    served(out, [kind, first, second, third])
 }
 
 // What a field tells, zeros where it has fewer values, and at the log's end; or the refusal's number and the out slice as it was.
@@ -33,24 +30,21 @@ fn reply_field(field: Field, out: &mut [u16]) -> u16
     ensures { reply result out.new ≡ field_reply out.old (outcome_of field) }
 {
     match field {
-        Field::BadTag(_) => 6,
-        Field::BadLength(_) => 7,
-        Field::Truncated(_) => 8,
-        Field::DirtyFiller(_) => 9,
+        Field::Refused(fault, _) => u16::from(fault),
         Field::End => put_field(out, 0, 0, 0, 0),
         Field::Leaf {
             parent,
             label,
             face,
-            next: _,
+            ..
         } => put_field(out, 1, parent, label, face),
         Field::Root {
-            named,
-            opening,
-            next: _,
-        } => put_field(out, 2, named as u16, opening, 0),
-        Field::Question { x, y, next: _ } => put_field(out, 3, x, y, 0),
-        Field::Alike { x, y, next: _ } => put_field(out, 4, x, y, 0),
+            opening: Some(opening),
+            ..
+        } => put_field(out, 2, 1, opening, 0),
+        Field::Root { opening: None, .. } => put_field(out, 2, 0, 0, 0),
+        Field::Question { x, y, .. } => put_field(out, 3, x, y, 0),
+        Field::Alike { x, y, .. } => put_field(out, 4, x, y, 0),
         Field::Filler(_) => put_field(out, 9, 0, 0, 0),
     }
 }
@@ -61,7 +55,7 @@ pub extern "C" fn nca_log_field(log: &[u8], at: usize, out: &mut [u16]) -> u16
     ensures { reply result out.new ≡ field_call log.now at out.old }
 {
     if out.len() != FIELD_OUT {
-        return number_of(Refusal::Misfit);
+        return u16::from(Refusal::Misfit);
     }
     reply_field(read_at(log, at), out)
 }

@@ -9,7 +9,8 @@ ghost use Rattle.replies.specs.Reply.{state_of, reply};
 ghost use Rattle.desk_questions.specs.QuestionCalls.{question_call, alike_call, InspectionCall};
 
 use replies::{reply_answered, reply_compared, reply_inspected};
-use table::refusal::{Refusal, number_of};
+use table::parts::Parts;
+use table::refusal::Refusal;
 use table::state::State;
 
 // How many values each call has for its out slice.
@@ -34,10 +35,16 @@ pub extern "C" fn nca_table_query(
     ensures { reply result out.new ≡ question_call (parts_of fields.now numbers.now levels.now ancestors.now) out.old (state_of count) x y }
 {
     if out.len() != ANSWERED_OUT {
-        return number_of(Refusal::Misfit);
+        return u16::from(Refusal::Misfit);
     }
-    let state = State { count: count };
-    let answered = query::characteristic_ancestors(fields, numbers, levels, ancestors, state, x, y);
+    let state = State { count };
+    let parts = Parts {
+        fields,
+        numbers,
+        levels,
+        ancestors,
+    };
+    let answered = query::characteristic_ancestors(&parts, state, x, y);
     reply_answered(answered, out)
 }
 
@@ -56,10 +63,16 @@ pub extern "C" fn nca_table_alike(
     ensures { reply result out.new ≡ alike_call (parts_of fields.now numbers.now levels.now ancestors.now) out.old (state_of count) x y }
 {
     if out.len() != COMPARED_OUT {
-        return number_of(Refusal::Misfit);
+        return u16::from(Refusal::Misfit);
     }
-    let state = State { count: count };
-    let compared = alike::are_alike(fields, numbers, levels, ancestors, state, x, y);
+    let state = State { count };
+    let parts = Parts {
+        fields,
+        numbers,
+        levels,
+        ancestors,
+    };
+    let compared = alike::are_alike(&parts, state, x, y);
     reply_compared(compared, out)
 }
 
@@ -78,9 +91,15 @@ pub extern "C" fn nca_table_inspect(
     ensures { InspectionCall (parts_of fields.now numbers.now levels.now ancestors.now) tally.now out.old scratch.old (state_of count) scratch.new (reply result out.new) }
 {
     if out.len() != INSPECTED_OUT {
-        return number_of(Refusal::Misfit);
+        return u16::from(Refusal::Misfit);
     }
-    let state = State { count: count };
-    let inspected = inspect::inspect(fields, numbers, levels, ancestors, tally, scratch, state);
+    let state = State { count };
+    let parts = Parts {
+        fields,
+        numbers,
+        levels,
+        ancestors,
+    };
+    let inspected = inspect::inspect(&parts, tally, scratch, state);
     reply_inspected(inspected, out)
 }

@@ -9,7 +9,8 @@ ghost use Rattle.replies.specs.Reply.{state_of, reply, outcome};
 ghost use Rattle.desk_table.specs.TableCalls.{set_up_call, LinkCall};
 
 use replies::{reply_linked, reply_made};
-use table::refusal::{Refusal, number_of};
+use table::parts::PartsMut;
+use table::refusal::Refusal;
 use table::state::State;
 
 // How many values each call has for its out slice.
@@ -30,9 +31,15 @@ pub extern "C" fn nca_table_set_up(
     ensures { outcome (parts_of fields.new numbers.new levels.new ancestors.new) tally.new (reply result out.new) ≡ set_up_call (parts_of fields.old numbers.old levels.old ancestors.old) tally.old out.old }
 {
     if out.len() != MADE_OUT {
-        return number_of(Refusal::Misfit);
+        return u16::from(Refusal::Misfit);
     }
-    let made = set_up::set_up(fields, numbers, levels, ancestors, tally);
+    let mut parts = PartsMut {
+        fields,
+        numbers,
+        levels,
+        ancestors,
+    };
+    let made = set_up::set_up(&mut parts, tally);
     reply_made(made, out)
 }
 
@@ -54,11 +61,15 @@ pub extern "C" fn nca_table_link(
     ensures { LinkCall (parts_of fields.old numbers.old levels.old ancestors.old) tally.old out.old scratch.old (state_of count) x v label scratch.new (outcome (parts_of fields.new numbers.new levels.new ancestors.new) tally.new (reply result out.new)) }
 {
     if out.len() != LINKED_OUT {
-        return number_of(Refusal::Misfit);
+        return u16::from(Refusal::Misfit);
     }
-    let state = State { count: count };
-    let linked = link::link(
-        fields, numbers, levels, ancestors, tally, scratch, state, x, v, label,
-    );
+    let state = State { count };
+    let mut parts = PartsMut {
+        fields,
+        numbers,
+        levels,
+        ancestors,
+    };
+    let linked = link::link(&mut parts, tally, scratch, state, x, v, label);
     reply_linked(linked, out)
 }

@@ -4,7 +4,7 @@
 #![tactic(auto)]
 
 ghost use Rattle.std.specs.Prelude.{◌≡◌, length};
-ghost use Rattle.table.specs.Parts.{parts_of};
+ghost use Rattle.table.specs.Lent.{parts_in as lent};
 ghost use Rattle.table.specs.Capacity.{Fits};
 ghost use Rattle.table.specs.Scratch.{least_scratch};
 ghost use Rattle.tally.specs.Layout.{tally_length};
@@ -19,35 +19,24 @@ use bytes_tree::tree::{
     BYTES, ENTRY_COUNT, FIELD_COUNT, NUMBER_COUNT, ROWS, TALLY_COUNT, read_parts, read_state,
     read_tally, write_tree,
 };
-use growth::Grown;
-use table::refusal::{Refusal, number_of};
+use growth::Growth;
+use table::parts::{Parts, PartsMut};
+use table::refusal::Refusal;
 use table::scratch::LEAST_SCRATCH;
 
 // How many bytes a growth has for its out slice.
 const GROWN_OUT: usize = 6;
 
 // The grown tree, where the growth was served.
-fn keep_grown(
-    tree: &mut [u8],
-    fields: &[u16],
-    numbers: &[u64],
-    levels: &[i32],
-    ancestors: &[u16],
-    tally: &[u16],
-    grown: &Grown,
-)
+fn keep_grown(tree: &mut [u8], parts: &Parts<'_>, tally: &[u16], grown: &Result<Growth, Refusal>)
     requires tree_len { length tree.old ≡ tree_bytes }
-    requires fits { Fits tree_rows (parts_of fields.now numbers.now levels.now ancestors.now) }
+    requires fits { Fits tree_rows (lent parts.now) }
     requires tally_len { length tally.now ≡ tally_length }
-    ensures tree { tree.new ≡ tree_after tree.old (parts_of fields.now numbers.now levels.now ancestors.now) tally.now (growth_of grown.now) }
-    ensures held { GrownHeld tree.new (parts_of fields.now numbers.now levels.now ancestors.now) tally.now (growth_of grown.now) }
+    ensures tree { tree.new ≡ tree_after tree.old (lent parts.now) tally.now (growth_of grown.now) }
+    ensures held { GrownHeld tree.new (lent parts.now) tally.now (growth_of grown.now) }
 {
-    match grown {
-        Grown::Node(g) => {
-            let s = g.state;
-            write_tree(tree, s, fields, numbers, levels, ancestors, tally);
-        }
-        Grown::Refused(_) => {}
+    if let Ok(g) = grown {
+        write_tree(tree, g.state, parts, tally);
     }
 }
 
@@ -64,33 +53,28 @@ pub extern "C" fn nca_add_leaf(
     ensures held { result ≡ 0 → GrowthHeld tree.new (add_leaf (parts_in tree.old) (tally_in tree.old) least_scratch (state_in tree.old) parent label face) }
 {
     if tree.len() != BYTES {
-        return number_of(Refusal::Misfit);
+        return u16::from(Refusal::Misfit);
     }
     if out.len() != GROWN_OUT {
-        return number_of(Refusal::Misfit);
+        return u16::from(Refusal::Misfit);
     }
     let mut fields = [0u16; FIELD_COUNT];
     let mut numbers = [0u64; NUMBER_COUNT];
     let mut levels = [0i32; ROWS];
     let mut ancestors = [0u16; ENTRY_COUNT];
-    read_parts(tree, &mut fields, &mut numbers, &mut levels, &mut ancestors);
+    let mut parts = PartsMut {
+        fields: &mut fields,
+        numbers: &mut numbers,
+        levels: &mut levels,
+        ancestors: &mut ancestors,
+    };
+    read_parts(tree, &mut parts);
     let mut tally = [0u16; TALLY_COUNT];
     read_tally(tree, &mut tally);
     let scratch = [0u16; LEAST_SCRATCH];
     let state = read_state(tree);
-    let grown = growth::add_leaf(
-        &mut fields,
-        &mut numbers,
-        &mut levels,
-        &mut ancestors,
-        &mut tally,
-        &scratch,
-        state,
-        parent,
-        label,
-        face,
-    );
-    keep_grown(tree, &fields, &numbers, &levels, &ancestors, &tally, &grown);
+    let grown = growth::add_leaf(&mut parts, &mut tally, &scratch, state, parent, label, face);
+    keep_grown(tree, &parts.read(), &tally, &grown);
     reply_grown(grown, out)
 }
 
@@ -102,31 +86,28 @@ pub extern "C" fn nca_add_root(tree: &mut [u8], named: u16, opening: u16, out: &
     ensures held { result ≡ 0 → GrowthHeld tree.new (add_root (parts_in tree.old) (tally_in tree.old) least_scratch (state_in tree.old) (is_named named) opening) }
 {
     if tree.len() != BYTES {
-        return number_of(Refusal::Misfit);
+        return u16::from(Refusal::Misfit);
     }
     if out.len() != GROWN_OUT {
-        return number_of(Refusal::Misfit);
+        return u16::from(Refusal::Misfit);
     }
     let mut fields = [0u16; FIELD_COUNT];
     let mut numbers = [0u64; NUMBER_COUNT];
     let mut levels = [0i32; ROWS];
     let mut ancestors = [0u16; ENTRY_COUNT];
-    read_parts(tree, &mut fields, &mut numbers, &mut levels, &mut ancestors);
+    let mut parts = PartsMut {
+        fields: &mut fields,
+        numbers: &mut numbers,
+        levels: &mut levels,
+        ancestors: &mut ancestors,
+    };
+    read_parts(tree, &mut parts);
     let mut tally = [0u16; TALLY_COUNT];
     read_tally(tree, &mut tally);
     let scratch = [0u16; LEAST_SCRATCH];
     let state = read_state(tree);
-    let grown = growth::add_root(
-        &mut fields,
-        &mut numbers,
-        &mut levels,
-        &mut ancestors,
-        &mut tally,
-        &scratch,
-        state,
-        named != 0,
-        opening,
-    );
-    keep_grown(tree, &fields, &numbers, &levels, &ancestors, &tally, &grown);
+    let over = (named != 0).then_some(opening);
+    let grown = growth::add_root(&mut parts, &mut tally, &scratch, state, over);
+    keep_grown(tree, &parts.read(), &tally, &grown);
     reply_grown(grown, out)
 }

@@ -1,7 +1,7 @@
 // The stores of a row that joins as planned. Nothing is refused here.
 ghost use Rattle.std.specs.Prelude.{◌≡◌};
 ghost use Rattle.table.specs.Lent.{parts_in_mut, SameLoans};
-ghost use Rattle.growth_store.specs.Store.{given, marked, stored, plan_stored};
+ghost use Rattle.growth_store.specs.Store.{SameLengths, given, marked, stored, plan_stored};
 
 use growth_plan::row::{Marks, Plan};
 use layer::layout::NONE;
@@ -32,6 +32,7 @@ fn mark(fields: &mut [u16], leaf: u16, m: Marks)
 pub fn store(parts: &mut PartsMut<'_>, count: u16, g: Plan) -> u16
     ensures stored { stored (parts_in_mut parts.new) result ≡ plan_stored (parts_in_mut parts.old) count g }
     ensures loans { SameLoans parts.old parts.new }
+    ensures lengths { SameLengths parts.old parts.new }
 {
     let seat = g.seat;
     let leaf = seat.leaf;

@@ -48,7 +48,7 @@ is_seated f m leaf h = (is_first f leaf h.row || not (eqb h.upper none)) && with
 -- the walk below a head that is not the leaf meets as many rows as its size says
 unfoldable pub is_whole : List ℕ → List ℕ → ℕ → Leaf → Head → Bool
 is_whole f m n leaf h =
-    eqb h.row leaf.row || check_walk (steps_of h.rows) f m n leaf h.row (record { row = h.row; down = true; ok = true })
+    eqb h.row leaf.row || check_walk (steps_of h.rows) f m n leaf h.row (Some (record { row = h.row; down = true }))
 
 -- the seat -----------------------------------------------------------------------------
 

@@ -1,19 +1,12 @@
 // The walk below a head before the first store, over the links as they will stand.
-ghost use Rattle.std.specs.Prelude.{◌≡◌, true};
+ghost use Rattle.std.specs.Prelude.{◌≡◌, true, Some};
 ghost use Rattle.layer.specs.Checked.{Holds};
 ghost use Rattle.join.specs.CheckWalk.{is_readable, entered, check_turn, check_walk};
 
 use crate::attach::{Leaf, first_after, next_after, parent_after};
 use layer::layout::NONE;
+use renumber::place::Place;
 use row_check::is_row;
-
-// Where the walk stands, and whether all rows that it met are as they should be.
-#[derive(Drop)]
-pub struct Checking {
-    pub row: u16,
-    pub down: bool,
-    pub ok: bool,
-}
 
 // Row c is the leaf, or holds nothing out of range.
 fn is_readable(fields: &[u16], numbers: &[u64], count: u16, leaf: Leaf, c: u16) -> bool
@@ -26,66 +19,53 @@ fn is_readable(fields: &[u16], numbers: &[u64], count: u16, leaf: Leaf, c: u16) 
     is_row(fields, numbers, count, c)
 }
 
-// Down into c, which must be a child of v, or up out of v where c is none.
-fn enter(fields: &[u16], numbers: &[u64], count: u16, leaf: Leaf, v: u16, c: u16) -> Checking
+// Down into c, or up out of v where c is none; nowhere where c is not as it should be, a child of v.
+fn enter(fields: &[u16], numbers: &[u64], count: u16, leaf: Leaf, v: u16, c: u16) -> Option<Place>
     requires { Holds count fields.now numbers.now }
     ensures { result ≡ entered fields.now numbers.now count leaf v c }
 {
     if c == NONE {
-        return Checking {
+        return Some(Place {
             row: v,
             down: false,
-            ok: true,
-        };
+        });
     }
     let readable = is_readable(fields, numbers, count, leaf, c);
     let child = parent_after(fields, leaf, c) == v;
-    Checking {
-        row: c,
-        down: true,
-        ok: readable & child,
+    if readable & child {
+        return Some(Place { row: c, down: true });
     }
+    None
 }
 
-// One step; none from a row that was not as it should be, and none up out of the head.
+// One step; none up out of the head.
 fn check_turn(
     fields: &[u16],
     numbers: &[u64],
     count: u16,
     leaf: Leaf,
     head: u16,
-    t: Checking,
-) -> Checking
+    t: Place,
+) -> Option<Place>
     requires { Holds count fields.now numbers.now }
     ensures { result ≡ check_turn fields.now numbers.now count leaf head t }
 {
-    if !t.ok {
-        return t;
-    }
+    let v = t.row;
     if t.down {
-        return enter(
-            fields,
-            numbers,
-            count,
-            leaf,
-            t.row,
-            first_after(fields, leaf, t.row),
-        );
+        let first = first_after(fields, leaf, v);
+        return enter(fields, numbers, count, leaf, v, first);
     }
-    if t.row == head {
-        return Checking {
-            row: head,
-            down: false,
-            ok: false,
-        };
+    if v == head {
+        return None;
     }
+    let parent = parent_after(fields, leaf, v);
     enter(
         fields,
         numbers,
         count,
         leaf,
-        parent_after(fields, leaf, t.row),
-        next_after(fields, leaf, t.row),
+        parent,
+        next_after(fields, leaf, v),
     )
 }
 
@@ -99,15 +79,17 @@ pub fn check_walk(
     steps: u32,
 ) -> bool
     requires { Holds count fields.now numbers.now }
-    ensures { result ≡ check_walk steps fields.now numbers.now count leaf head (record { row = head; down = true; ok = true }) }
+    ensures { result ≡ check_walk steps fields.now numbers.now count leaf head (Some (record { row = head; down = true })) }
 {
-    let mut t = Checking {
+    let mut t = Place {
         row: head,
         down: true,
-        ok: true,
     };
     for _ in 0..steps {
-        t = check_turn(fields, numbers, count, leaf, head, t);
+        let Some(next) = check_turn(fields, numbers, count, leaf, head, t) else {
+            return false;
+        };
+        t = next;
     }
-    t.ok & !t.down & (t.row == head)
+    !t.down & (t.row == head)
 }

@@ -1,5 +1,5 @@
 -- What is proved of `CheckWalkExact`.
-use Rattle.std.specs.Prelude.{◌≡◌, Bool, true, false, ◌&&◌, not, ◌≢◌, List, eqb}
+use Rattle.std.specs.Prelude.{◌≡◌, Bool, true, false, ◌≢◌, List, Option, Some}
 use Rattle.std.proofs.Math.Path.{refl}
 use Rattle.std.proofs.Common.{ap, sym, ◌∙◌, inl, inr, arith}
 use Prim.Native.Nat.{ℕ, zero, suc, ◌+◌, ◌-◌, ◌*◌, ◌<◌}
@@ -25,9 +25,9 @@ use Rattle.renumber_laws.proofs.Renumbering.{links_of}
 use Rattle.renumber_laws.proofs.RenumberingLaws.{stored_tree, head_below}
 use Rattle.renumber_laws.proofs.WalkedLaws.{Under}
 use Rattle.join.specs.declared.attach.Leaf.{Leaf}
-use Rattle.join.specs.declared.check_walk.Checking.{Checking}
+use Rattle.renumber.specs.declared.place.Place.{Place}
 use Rattle.counts.specs.Count.{steps_of}
-use Rattle.join.specs.CheckWalk.{is_readable, entered, left_row, check_turn, check_walk}
+use Rattle.join.specs.CheckWalk.{is_readable, entered, left_row, check_turn, turned, is_back, check_walk}
 use Rattle.renumber_exact.specs.Places.{row_of, is_down}
 use Rattle.join_exact.specs.CheckWalkExact.{Standing}
 
@@ -78,14 +78,14 @@ through_all (node r kids rest) t = around {x = r} {kids = kids} {rest = rest} {t
 
 module _ {m : Layer} {h : ℕ} (g : Renumberable m h) (f numbers : List ℕ) (n : ℕ) (leaf : Leaf) (stands : Standing m f leaf)
     (readable : (y : ℕ) → y < m.count → is_readable f numbers n leaf y ≡ true) where
-  abbrev step : Checking → Checking
-  step = check_turn f numbers n leaf h
+  abbrev step : Option Place → Option Place
+  step = turned f numbers n leaf h
 
-  abbrev stood : Position → Checking
-  stood p = record { row = row_of p; down = is_down p; ok = true }
+  abbrev stood : Position → Option Place
+  stood p = Some (record { row = row_of p; down = is_down p })
 
   -- the walk stands at p, on a row in use; it goes up out of rows below the head only
-  record Has (p : Position) (t : Unit {0}) (q : Checking) : Type 0 where
+  record Has (p : Position) (t : Unit {0}) (q : Option Place) : Type 0 where
     is : q ≡ stood p
     in_use : row_of p < m.count
     under : is_down p ≡ false → Under m h (row_of p)
@@ -100,11 +100,11 @@ module _ {m : Layer} {h : ℕ} (g : Renumberable m h) (f numbers : List ℕ) (n 
 
   -- one step
   from_down : (y : ℕ) → y < m.count → step (stood (down y)) ≡ entered f numbers n leaf y (m.row y).first
-  unfolding check_turn
+  unfolding turned check_turn
   from_down y l = rw (stands.first y l) refl
 
   from_up : (y : ℕ) → Under m h y → step (stood (up y)) ≡ entered f numbers n leaf (parent m y) (m.row y).next
-  unfolding check_turn left_row
+  unfolding turned check_turn left_row
   from_up y u = rw (ne_eqb y h u.other, stands.parent y u.in_use, stands.next y u.in_use) refl
 
   over : (y : ℕ) → Under m h y → parent m y ≢ none
@@ -161,13 +161,12 @@ module _ {m : Layer} {h : ℕ} (g : Renumberable m h) (f numbers : List ℕ) (n 
   last : turns step (2 * count kin + 1) (stood (down h)) ≡ stood (up h)
   last = turns_add step (2 * count kin) 1 (stood (down h)) ∙ ap step came.has.is ∙ step_up came.place h came.next came.has.in_use came.has.under
 
-  check_turns : (steps : ℕ) (q : Checking) → check_walk steps f numbers n leaf h q
-      ≡ (((turns step steps q).ok && not (turns step steps q).down) && eqb (turns step steps q).row h)
+  check_turns : (steps : ℕ) (q : Option Place) → check_walk steps f numbers n leaf h q ≡ is_back h (turns step steps q)
   unfolding check_walk
   check_turns zero q = refl
   check_turns (suc steps) q = check_turns steps (step q)
 
-  pub check_passes : check_walk (steps_of (rows m h)) f numbers n leaf h (record { row = h; down = true; ok = true }) ≡ true
+  pub check_passes : check_walk (steps_of (rows m h)) f numbers n leaf h (Some (record { row = h; down = true })) ≡ true
   check_passes =
       let e : rows m h * 2 - 1 ≡ 2 * count kin + 1 = omega (arith, size_count (links_of m) (stored_tree g) g.in_use kin_below) in
       rw (e, check_turns (2 * count kin + 1) (stood (down h)), last, eq-eqb h h refl) refl

@@ -69,16 +69,14 @@ line_written t ordinal letter zs count h six small e =
     (e ∙ simp (push_append, append_append, append_assoc))
 
 pub header_written : (t : Text) (capacity : ℕ) → capacity < 2 ^ 32
-    → t ≡ push (append (push (push (push (push (push (text_of []) (code "e")) (code "c")) (code "h")) (code "o")) (code " ")) (digits capacity)) (code "\n")
+    → t ≡ push (append (append (text_of []) (bytes_of "echo ")) (digits capacity)) (code "\n")
     → (t ≡ text_of (header_line capacity)) × (t.len ≤ 96)
 unfolding header_line
 header_written t capacity h e =
     append_line t (header_line capacity) (length_header capacity h) (e ∙ simp (push_append, append_append, append_assoc))
 
 pub end_written : (t : Text) (count total : ℕ) → count < 2 ^ 32 → total < 2 ^ 32
-    → t
-    ≡ push (append (push (append (push (push (push (push (text_of []) (code "e")) (code "n")) (code "d")) (code " ")) (digits count)) (code " ")) (digits total))
-    (code "\n")
+    → t ≡ push (append (push (append (append (text_of []) (bytes_of "end ")) (digits count)) (code " ")) (digits total)) (code "\n")
     → (t ≡ text_of (end_line count total)) × (t.len ≤ 96)
 unfolding end_line
 end_written t count total h k e =

@@ -1,6 +1,6 @@
 -- Laws of a text written byte by byte: bytes that fit stand in it in their order.
-use Rattle.std.specs.Prelude.{◌≡◌, refl, List, [], ◌∷◌, ◌++◌, ℕ, suc, ◌+◌, ◌-◌, ◌/◌, ◌%◌, ◌≤◌, ◌<◌, length, set, replicate}
-use Rattle.std.proofs.Common.{sym, ap, ◌∙◌, append-nil, add-one, arith, length-append, lt-ltb, le-ltb}
+use Rattle.std.specs.Prelude.{◌≡◌, refl, List, [], ◌∷◌, ◌++◌, ℕ, suc, ◌+◌, ◌-◌, ◌/◌, ◌%◌, ◌≤◌, ◌<◌, length, get_or, drop, set, replicate}
+use Rattle.std.proofs.Common.{sym, ap, ◌∙◌, append-nil, add-one, arith, drop-cons, drop_of_length-le, length-append, lt-ltb, le-ltb}
 use Rattle.std.proofs.Math.Seq.{append_snoc, set-append_seam}
 use Rattle.lines.specs.declared.Text.{Text}
 use Rattle.lines.specs.Decimal.{digit, digits}
@@ -27,6 +27,16 @@ pub append_append : (t : Text) (xs ys : List ℕ) → append (append t xs) ys �
 unfolding append
 append_append t [] ys = refl
 append_append t (x ∷ xs) ys = append_append (push t x) xs ys
+
+-- a loop that writes bytes one after another
+pub append_from : (t : Text) (bytes : List ℕ) (i b : ℕ) → i < length bytes → b ≡ get_or bytes i 0
+    → append (push t b) (drop (i + 1) bytes) ≡ append t (drop i bytes)
+unfolding append
+append_from t bytes i b h e = rw (e, add-one, drop-cons bytes i 0 h)
+
+pub append_none : (t : Text) (bytes : List ℕ) (i : ℕ) → length bytes ≤ i → append t (drop i bytes) ≡ t
+unfolding append
+append_none t bytes i h = rw (drop_of_length-le bytes {i = i} h)
 
 -- a byte after a line takes the place of the first zero
 zeros_set : (line : List ℕ) (n b : ℕ) → length line < n

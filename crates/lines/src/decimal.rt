@@ -1,45 +1,38 @@
 // Numbers in decimal.
-ghost use Rattle.std.specs.Prelude.{◌≡◌, nat_abs, ◌<◌};
+ghost use Rattle.std.specs.Prelude.{◌≡◌, ◌<◌};
 ghost use Rattle.lines.specs.Decimal.{digit, digits, signed};
 ghost use Rattle.lines.specs.Text.{push, append};
 
 use crate::Text;
-use crate::bytes::put_byte;
 
-// One digit more.
-fn put_digit(t: Text, n: u32) -> Text
-    requires { n < 10 }
-    ensures { result ≡ push t (digit n) }
-{
-    put_byte(t, b'0' + n as u8)
-}
-
-// The number's digits: those of its tenth, and its last.
-pub fn put_number(t: Text, n: u32) -> Text
-    ensures { result ≡ append t (digits n) }
-{
-    if n < 10 {
-        return put_digit(t, n);
+impl Text {
+    // One digit more.
+    fn put_digit(&mut self, n: u32)
+        requires { n < 10 }
+        ensures { self.new ≡ push self.old (digit n) }
+    {
+        self.put_byte(b'0' + n as u8)
     }
-    put_digit(put_number(t, n / 10), n % 10)
-}
 
-// A number without its sign.
-fn magnitude(v: i32) -> u32
-    ensures { result ≡ nat_abs v }
-{
-    if v < 0 {
-        return (-1 - v) as u32 + 1;
+    // The number's digits: those of its tenth, and its last.
+    #[tactic(auto, using(crate::specs::TextLaws::append_one, crate::specs::TextLaws::append_more))]
+    pub fn put_number(&mut self, n: u32)
+        ensures { self.new ≡ append self.old (digits n) }
+    {
+        if n < 10 {
+            return self.put_digit(n);
+        }
+        self.put_number(n / 10);
+        self.put_digit(n % 10)
     }
-    v as u32
-}
 
-// The number's digits, after a minus sign where it is below zero.
-pub fn put_signed(t: Text, v: i32) -> Text
-    ensures { result ≡ append t (signed v) }
-{
-    if v < 0 {
-        return put_number(put_byte(t, b'-'), magnitude(v));
+    // The number's digits, after a minus sign where it is below zero.
+    pub fn put_signed(&mut self, v: i32)
+        ensures { self.new ≡ append self.old (signed v) }
+    {
+        if v < 0 {
+            self.put_byte(b'-');
+        }
+        self.put_number(v.unsigned_abs())
     }
-    put_number(t, magnitude(v))
 }

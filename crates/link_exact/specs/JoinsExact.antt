@@ -1,5 +1,5 @@
 -- The joins of a link, in the lent parts, are the joinings that 02 asks for.
-use Rattle.std.specs.Prelude.{◌≡◌, ◌≢◌, List, [], ◌∷◌, ℕ, ◌+◌, ◌≤◌, ◌<◌, eqb, ◌+ℤ◌}
+use Rattle.std.specs.Prelude.{◌≡◌, ◌≢◌, Some, List, [], ◌∷◌, ℕ, ◌+◌, ◌≤◌, ◌<◌, eqb, ◌+ℤ◌}
 use Rattle.std.proofs.Math.Path.{refl}
 use Rattle.std.proofs.Common.{ap, sym, ◌∙◌, inl, inr, arith}
 use borrow.Author.Tests.{le-leb}
@@ -32,7 +32,6 @@ use Rattle.link_laws.specs.Joinings.{Marked, Joinings, done, next}
 use Rattle.link_laws.proofs.JoiningsLaws.{Before}
 use Rattle.link_laws.specs.Link.{column_with}
 use Rattle.growth_plan.specs.declared.row.Marks.{Marks}
-use Rattle.growth_plan.specs.declared.level.Level.TheVariants.{At}
 use Rattle.growth_plan.specs.PlannedRow.{marks_of}
 use Rattle.growth_plan.specs.Level.{level_from}
 use Rattle.growth_store.specs.Store.{stored}
@@ -83,7 +82,7 @@ module _ {c : ℕ} {p : Parts} {n : ℕ} {target label face : ℕ → ℕ} {z : 
   level_low = rw +ℤ_one (omega (arith, abs_suc (t.level v), q.shallow v over.inside before.0, deep_room (shape q.was) (q.alone z (inl refl)) over, q.was.one.count))
 
   -- the level that it is made from is one too
-  pub level_planned : level_from (t.level v) (t.level v +ℤ pos 1) ≡ At (t.level v +ℤ pos 1)
+  pub level_planned : level_from (t.level v) (t.level v +ℤ pos 1) ≡ Some (t.level v +ℤ pos 1)
   unfolding level_from
   level_planned =
       let high : nat_abs (t.level v) ≤ level_limit = omega (arith, q.shallow v over.inside before.0, depth_below_lem (shape q.was) v over.inside, q.was.one.count) in

@@ -2,13 +2,12 @@
 -- every other call is refused for its reason and leaves parts and tally as they were. 4 is given exactly where inspection says no.
 use Rattle.std.proofs.Math.Path.{◌≡◌, refl}
 use Rattle.std.proofs.Common.{ap, sym, ◌∙◌, ne_eqb, le-leb}
-use Rattle.std.specs.Prelude.{Bool, not, ◌≢◌, List, ℕ, ◌+◌, ◌*◌, ◌≤◌, ◌<◌, eqb, ltb, length}
+use Rattle.std.specs.Prelude.{Result as Fallible, Some, Ok, Err, Bool, not, ◌≢◌, List, ℕ, ◌+◌, ◌*◌, ◌≤◌, ◌<◌, eqb, ltb, length}
 use Rattle.std.proofs.Math.Bool.{true, false}
 use Rattle.std.proofs.Math.Decide.{dec_lt}
 use native.Mathlib.Omega.{arith}
 use Rattle.laws.specs.Test.{Says, holds, fails, says_true, says_ltb, says_leb, says_eqb, says_and, says_get}
 use Rattle.tree_laws.specs.Ancestor.{none}
-use Rattle.table.specs.declared.capacity.Fit.TheVariants.{Capacity}
 use Rattle.table.specs.declared.refusal.Refusal.{Refusal}
 use Rattle.table.specs.declared.refusal.Refusal.TheVariants.{UnknownNode, Misfit, Corrupt, BadLabel, NotRoot, SameTree}
 use Rattle.table.specs.declared.state.State.{State}
@@ -41,9 +40,7 @@ use Rattle.link_laws.specs.Link.{Linkable, Linked, PlainLink}
 use Rattle.link_laws.specs.LinkFrame.{LinkFrame}
 use Rattle.link_laws.proofs.LinkLaws.{link_keeps_rules, link_plain, link_pays}
 use Rattle.link_laws.specs.Order.{tree_rows}
-use Rattle.link_plan.specs.declared.Checked.{Checked}
 use Rattle.link_plan.specs.declared.Trees.{Trees}
-use Rattle.link_plan.specs.declared.Checked.TheVariants.{Serve, Refuse}
 use Rattle.link_plan.specs.Check.{trees, provided, link_within, link_checked}
 use Rattle.link_plan.specs.CheckLaws.{check_scratch, check_x, check_v, check_label, check_not_root, check_same, check_inspect, trees_are, check_serve}
 use Rattle.link.specs.Outcome.{refusal, refused, linked as tree_linked}
@@ -66,17 +63,17 @@ pub record LinkedExactly (c : ℕ) (p : Parts) (s : State) (x v door : ℕ) (o :
   pub pays : worth * lag (table_of o.parts s.count).layer + rows ≤ worth * lag (table_of p s.count).layer + per_join * tree_rows (table_of p s.count).layer x
 
 -- by what was decided
-by_refusal : (p : Parts) (w : List ℕ) (scratch : ℕ) (s : State) (x v door : ℕ) {why : Refusal} → Refuse why ≡ link_checked p w scratch s x v door
+by_refusal : (p : Parts) (w : List ℕ) (scratch : ℕ) (s : State) (x v door : ℕ) {why : Refusal} → Err why ≡ link_checked p w scratch s x v door
     → link_by p w scratch s x v door ≡ result p w (refused why)
 unfolding link_by linked_by
 by_refusal p w scratch s x v door e = rw (← e) refl
 
-by_serving : (p : Parts) (w : List ℕ) (scratch : ℕ) (s : State) (x v door : ℕ) {t : Trees} → Serve t ≡ link_checked p w scratch s x v door
+by_serving : (p : Parts) (w : List ℕ) (scratch : ℕ) (s : State) (x v door : ℕ) {t : Trees} → Ok t ≡ link_checked p w scratch s x v door
     → link_by p w scratch s x v door ≡ served_by w door t.receiving (joined_tree p scratch s.count t.linked x v door)
 unfolding link_by linked_by
 by_serving p w scratch s x v door e = rw (← e) refl
 
-told_with : {c : ℕ} (p : Parts) (w : List ℕ) → Fits c p → length w ≡ tally_length → Capacity c ≡ capacity_with p w
+told_with : {c : ℕ} (p : Parts) (w : List ℕ) → Fits c p → length w ≡ tally_length → Some c ≡ capacity_with p w
 told_with p w fit long = sym (with_told p w fit long)
 
 -- Refusals on any table
@@ -149,13 +146,13 @@ module _ {c : ℕ} (p : Parts) (w : List ℕ) (scratch : ℕ) (s : State) (x v d
     label_is : is_label door ≡ true
     label_is = rw (le-leb 1 door h.least) (le-leb door _ h.most)
 
-    checked : Serve (trees (first t.layer x) (first t.layer v)) ≡ link_checked p w scratch s x v door
+    checked : Ok (trees (first t.layer x) (first t.layer v)) ≡ link_checked p w scratch s x v door
     checked =
         let k = check_serve p w scratch s x v door c (told_with p w fit long) same h.in_use h.over label_is (standing p s fit r) (root_some p s fit r h.in_use) (root_read p s fit r h.in_use ∙ h.is_root)
         (tree_some p s fit r h.over) (λ e. h.other (same_tree p s.count r fit.most v x h.over h.in_use e))
         (says_true (inspect_exact c t w fit.most long) record { rules = r; tally = tally })
         (movable p s fit r w tally h.in_use h.is_root h.least h.most) in
-        ap Serve (trees_are (read h.in_use) (read h.over)) ∙ k
+        ap Ok (trees_are (read h.in_use) (read h.over)) ∙ k
       where
         read : {y : ℕ} → y < s.count → first t.layer y ≡ tree_at p.ancestors s.count y
         read {y} l = sym (tree_is p s.count r fit.most (in_tree (numbered r fit.most) y l))
@@ -196,17 +193,17 @@ same_number : {m n : ℕ} → refusal m ≡ refusal n → m ≡ n
 same_number e = cc
 
 -- the answers of one decision
-ladder : Bool → Bool → Bool → Bool → Bool → Bool → Bool → Bool → Bool → Bool → Bool → Checked → Checked
+ladder : Bool → Bool → Bool → Bool → Bool → Bool → Bool → Bool → Bool → Bool → Bool → Fallible Trees Refusal → Fallible Trees Refusal
 ladder a b d e g h i j k l m o =
     provided a Misfit (provided b UnknownNode (provided d UnknownNode (provided e BadLabel (provided g Corrupt (provided h Corrupt (provided i NotRoot
     (provided j Corrupt (provided k SameTree (provided l Corrupt (provided m Corrupt o))))))))))
 
 module _ (p : Parts) (w : List ℕ) (scratch n x v door : ℕ) where
-  told : Checked → Result
+  told : Fallible Trees Refusal → Result
   told o = linked_by p w scratch n x v door o
 
   -- inspection says no: 4 is all that is left
-  no_four : (a b d e g h i j k m : Bool) (o : Checked) → LetThrough (told (ladder a b d e g h i j k false m o)) → (told (ladder a b d e g h i j k false m o)).outcome ≡ refusal 4
+  no_four : (a b d e g h i j k m : Bool) (o : Fallible Trees Refusal) → LetThrough (told (ladder a b d e g h i j k false m o)) → (told (ladder a b d e g h i j k false m o)).outcome ≡ refusal 4
   unfolding ladder told linked_by
   no_four false b d e g h i j k m o q = absurd (q.fits refl)
   no_four true false d e g h i j k m o q = absurd (q.known refl)
@@ -221,7 +218,7 @@ module _ (p : Parts) (w : List ℕ) (scratch n x v door : ℕ) where
 
   -- inspection says yes: 4 is never given
   yes_none : (a b d e h i j k m : Bool) (t : Trees) → (b ≡ true → h ≡ true) → (d ≡ true → j ≡ true) → (b ≡ true → e ≡ true → i ≡ true → m ≡ true)
-      → (told (ladder a b d e true h i j k true m (Serve t))).outcome ≡ refusal 4 → ⊥
+      → (told (ladder a b d e true h i j k true m (Ok t))).outcome ≡ refusal 4 → ⊥
   unfolding ladder told linked_by served_by
   yes_none false b d e h i j k m t y z u q = omega (arith, same_number {m = 3} q)
   yes_none true false d e h i j k m t y z u q = omega (arith, same_number {m = 1} q)
@@ -236,11 +233,11 @@ module _ (p : Parts) (w : List ℕ) (scratch n x v door : ℕ) where
 
 module _ {c : ℕ} (p : Parts) (w : List ℕ) (scratch : ℕ) (s : State) (x v door : ℕ) (fit : Fits c p) (long : length w ≡ tally_length) where
   -- the decisions of a call, with this answer of inspection
-  abbrev decided : Bool → Checked
+  abbrev decided : Bool → Fallible Trees Refusal
   decided l = ladder (eqb scratch c) (ltb x s.count) (ltb v s.count) (is_label door) (is_standing c s)
       (not (eqb (root_at p.fields p.ancestors s.count x) none)) (eqb (root_at p.fields p.ancestors s.count x) x)
       (not (eqb (tree_at p.ancestors s.count v) none)) (not (eqb (tree_at p.ancestors s.count v) (tree_at p.ancestors s.count x))) l
-      (is_movable w c 0 door) (Serve (trees (tree_at p.ancestors s.count x) (tree_at p.ancestors s.count v)))
+      (is_movable w c 0 door) (Ok (trees (tree_at p.ancestors s.count x) (tree_at p.ancestors s.count v)))
 
   link_told : {l : Bool} → inspects c (table_of p s.count) w ≡ l → link_by p w scratch s x v door ≡ told p w scratch s.count x v door (decided l)
   unfolding link_by link_checked link_within ladder told

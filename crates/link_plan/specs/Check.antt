@@ -1,6 +1,6 @@
 -- What a link decides before its first store: the refusals in their order: 3, 1, 5, 4 (count), 4 (the tree of x), 10, 4 (the tree of v), 11,
 -- 4 (inspection), 4 (an entry of the tally that cannot change so).
-use Rattle.std.specs.Prelude.{Bool, not, List, ℕ, eqb, ltb}
+use Rattle.std.specs.Prelude.{Result, Ok, Err, Bool, not, List, ℕ, eqb, ltb}
 use Rattle.laws.specs.Test.{pick}
 use Rattle.tree_laws.specs.Ancestor.{none}
 use Rattle.table.specs.declared.refusal.Refusal.{Refusal}
@@ -15,20 +15,18 @@ use Rattle.tally.specs.Count.{is_movable}
 use Rattle.inspect.specs.Inspects.{inspects}
 use Rattle.table.specs.Capacity.{on_fit}
 use Rattle.growth_plan.specs.Plan.{is_label}
-use Rattle.link_plan.specs.declared.Checked.{Checked}
 use Rattle.link_plan.specs.declared.Trees.{Trees}
-use Rattle.link_plan.specs.declared.Checked.TheVariants.{Serve, Refuse}
 
 -- refused unless a test holds
-abbrev pub provided : Bool → Refusal → Checked → Checked
-provided b r k = pick b k (Refuse r)
+abbrev pub provided : Bool → Refusal → Result Trees Refusal → Result Trees Refusal
+provided b r k = pick b k (Err r)
 
 -- the first rows of the linked tree and of the receiving one
 abbrev pub trees : ℕ → ℕ → Trees
 trees l r = record { linked = l; receiving = r }
 
 -- in parts and a tally that fit the capacity c; `door` is the label that the linked root takes
-unfoldable pub link_within : Parts → List ℕ → ℕ → ℕ → State → ℕ → ℕ → ℕ → Checked
+unfoldable pub link_within : Parts → List ℕ → ℕ → ℕ → State → ℕ → ℕ → ℕ → Result Trees Refusal
 link_within p w c scratch s x v door =
     provided (eqb scratch c) Misfit
     (provided (ltb x s.count) UnknownNode
@@ -41,8 +39,8 @@ link_within p w c scratch s x v door =
     (provided (not (eqb (tree_at p.ancestors s.count v) (tree_at p.ancestors s.count x))) SameTree
     (provided (inspects c (table_of p s.count) w) Corrupt
     (provided (is_movable w c 0 door) Corrupt
-    (Serve (trees (tree_at p.ancestors s.count x) (tree_at p.ancestors s.count v)))))))))))))
+    (Ok (trees (tree_at p.ancestors s.count x) (tree_at p.ancestors s.count v)))))))))))))
 
 -- with a scratch of this length
-unfoldable pub link_checked : Parts → List ℕ → ℕ → State → ℕ → ℕ → ℕ → Checked
-link_checked p w scratch s x v door = on_fit (capacity_with p w) (λ c. link_within p w c scratch s x v door) (Refuse Misfit)
+unfoldable pub link_checked : Parts → List ℕ → ℕ → State → ℕ → ℕ → ℕ → Result Trees Refusal
+link_checked p w scratch s x v door = on_fit (capacity_with p w) (λ c. link_within p w c scratch s x v door) (Err Misfit)

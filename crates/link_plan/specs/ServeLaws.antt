@@ -1,10 +1,8 @@
 -- What the serving of a link tells: the tests that it passed.
 use Rattle.std.proofs.Math.Path.{◌≡◌, refl}
 use Rattle.std.proofs.Common.{sym, ◌∙◌, arith}
-use Rattle.std.specs.Prelude.{Bool, true, false, not, List, ℕ, ◌≤◌, ◌<◌, eqb, ltb, length, get_or}
+use Rattle.std.specs.Prelude.{Option, Some, None, Result, Ok, Err, Bool, true, false, not, List, ℕ, ◌≤◌, ◌<◌, eqb, ltb, length, get_or}
 use Rattle.laws.specs.Test.{Says, says_eqb, says_ltb, says_not, says_and, says_get}
-use Rattle.table.specs.declared.capacity.Fit.{Fit}
-use Rattle.table.specs.declared.capacity.Fit.TheVariants.{Capacity, Misfit as NoFit}
 use Rattle.table.specs.declared.refusal.Refusal.TheVariants.{UnknownNode, Misfit, Corrupt, BadLabel, NotRoot, SameTree}
 use Rattle.table.specs.declared.state.State.{State}
 use Rattle.table.specs.Capacity.{node_limit, on_fit}
@@ -21,14 +19,13 @@ use Rattle.tally.specs.Layout.{tally_length}
 use Rattle.tally.specs.Fit.{capacity_with}
 use Rattle.tally.specs.FitLaws.{FitsWith, fits_with}
 use Rattle.tally.specs.Count.{has_room, is_movable}
-use Rattle.link_plan.specs.declared.Checked.{Checked}
+use Rattle.table.specs.declared.refusal.Refusal.{Refusal}
 use Rattle.link_plan.specs.declared.Trees.{Trees}
-use Rattle.link_plan.specs.declared.Checked.TheVariants.{Serve, Refuse}
 use Rattle.link_plan.specs.Check.{provided, link_within, link_checked}
 
 -- a call that is served passed the tests of the scratch, the count and the tally
-served_tests : (a b d e g h i j l m o : Bool) (k : Checked) {t : Trees}
-    → Serve t ≡ provided a Misfit (provided b UnknownNode (provided d UnknownNode (provided e BadLabel (provided g Corrupt (provided h Corrupt (provided i NotRoot (provided j Corrupt (provided l SameTree (provided m Corrupt (provided o Corrupt k))))))))))
+served_tests : (a b d e g h i j l m o : Bool) (k : Result Trees Refusal) {t : Trees}
+    → Ok t ≡ provided a Misfit (provided b UnknownNode (provided d UnknownNode (provided e BadLabel (provided g Corrupt (provided h Corrupt (provided i NotRoot (provided j Corrupt (provided l SameTree (provided m Corrupt (provided o Corrupt k))))))))))
     → (a ≡ true) × ((g ≡ true) × (o ≡ true))
 served_tests true true true true true true true true true true true k q = (refl, (refl, refl))
 served_tests false b d e g h i j l m o k q = let z : ◌≡◌ {A = ℕ} 0 1 = cc in absurd (omega arith)
@@ -56,7 +53,7 @@ unfolding is_movable has_room
 says_movable w c from to = says_and (says_not (says_eqb (get_or w from 0) 0)) (λ _. says_ltb (get_or w to 0) c)
 
 module _ (p : Parts) (w : List ℕ) (scratch : ℕ) (s : State) (x v door : ℕ) where
-  ready_within : {c : ℕ} {t : Trees} → capacity_with p w ≡ Capacity c → Serve t ≡ link_within p w c scratch s x v door → Ready p w scratch s.count door
+  ready_within : {c : ℕ} {t : Trees} → capacity_with p w ≡ Some c → Ok t ≡ link_within p w c scratch s x v door → Ready p w scratch s.count door
   unfolding link_within
   ready_within {c} f e =
       let n = s.count in
@@ -76,10 +73,10 @@ module _ (p : Parts) (w : List ℕ) (scratch : ℕ) (s : State) (x v door : ℕ)
         few = omega (arith, fit.parts.most, k.1);
       }
 
-  pub serve_ready : {r : Checked} {t : Trees} → r ≡ link_checked p w scratch s x v door → r ≡ Serve t → Ready p w scratch s.count door
+  pub serve_ready : {r : Result Trees Refusal} {t : Trees} → r ≡ link_checked p w scratch s x v door → r ≡ Ok t → Ready p w scratch s.count door
   unfolding link_checked
   serve_ready {t = t} e h = go (capacity_with p w) refl (sym h ∙ e)
     where
-      go : (f : Fit) → capacity_with p w ≡ f → Serve t ≡ on_fit f (λ c. link_within p w c scratch s x v door) (Refuse Misfit) → Ready p w scratch s.count door
-      go (Capacity c) f k = ready_within f k
-      go NoFit f k = let z : ◌≡◌ {A = ℕ} 0 1 = cc in absurd (omega arith)
+      go : (f : Option ℕ) → capacity_with p w ≡ f → Ok t ≡ on_fit f (λ c. link_within p w c scratch s x v door) (Err Misfit) → Ready p w scratch s.count door
+      go (Some c) f k = ready_within f k
+      go None f k = let z : ◌≡◌ {A = ℕ} 0 1 = cc in absurd (omega arith)

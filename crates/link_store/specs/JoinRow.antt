@@ -1,21 +1,22 @@
 -- The joins of a link in the lent parts: a row that stands alone comes under the row that its root field names.
-use Rattle.std.specs.Prelude.{List, [], ◌∷◌, ℕ, ◌+◌, eqb, pos, ◌+ℤ◌}
+use Rattle.std.specs.Prelude.{Result, Ok, Err, List, [], ◌∷◌, ℕ, ◌+◌, eqb, pos, ◌+ℤ◌}
 use Rattle.laws.specs.Test.{pick}
 use Rattle.tree_laws.specs.Ancestor.{none}
 use Rattle.table.specs.Layout.{label_place, face_place, root_place}
+use Rattle.table.specs.declared.refusal.Refusal.{Refusal}
 use Rattle.table.specs.Parts.{Parts, level_at}
 use Rattle.layer.specs.Row.{field_at}
 use Rattle.growth_plan.specs.declared.row.Planned.{Planned}
-use Rattle.growth_plan.specs.declared.row.Planned.TheVariants.{Grow, Start, Refuse}
+use Rattle.growth_plan.specs.declared.row.Planned.TheVariants.{Grow, Start}
 use Rattle.growth_plan.specs.PlannedRow.{marks_of, planned_row}
 use Rattle.growth_store.specs.Store.{Stored, stored, plan_stored}
 use Rattle.growth_plan.specs.Level.{level_from, on_level}
 
 -- what was planned: the stores, or nothing
-unfoldable pub planned_stored : Parts → ℕ → Planned → Stored
-planned_stored p n (Grow g) = plan_stored p n g
-planned_stored p n (Start k) = stored p 0
-planned_stored p n (Refuse r) = stored p 0
+unfoldable pub planned_stored : Parts → ℕ → Result Planned Refusal → Stored
+planned_stored p n (Ok (Grow g)) = plan_stored p n g
+planned_stored p n (Ok (Start k)) = stored p 0
+planned_stored p n (Err r) = stored p 0
 
 -- row z under v, of this label and face, one level below v
 unfoldable pub joined_under : Parts → ℕ → ℕ → ℕ → ℕ → ℕ → Stored

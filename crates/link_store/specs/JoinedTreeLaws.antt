@@ -5,7 +5,7 @@ use Rattle.renumber.specs.NumberWalk.{written}
 use Rattle.growth_store.specs.Store.{Stored}
 use Rattle.link_store.specs.Detach.{detached_from, detached}
 use Rattle.link_store.specs.JoinedTree.{joined_tree}
-use Rattle.link_store.specs.Sort.{cell_at, sorted, sorted_rows}
+use Rattle.link_store.specs.Sort.{Sorted, cell_at, sorted, sorted_rows}
 use Rattle.link_store.specs.Walk.{walking, joining, join_walk}
 
 pub tree_joined : (p : Parts) (c n tree x v door : ℕ) (heads links f m a : List ℕ) (o : Stored)
@@ -15,3 +15,8 @@ pub tree_joined : (p : Parts) (c n tree x v door : ℕ) (heads links f m a : Lis
     → o ≡ joined_tree p c n tree x v door
 unfolding joined_tree detached
 tree_joined p c n tree x v door heads links f m a o e h i = rw (← e, ← h) i
+
+-- the rows sorted in the same parts, read
+pub sorted_same : (p q : Parts) (c n tree x : ℕ) {s : Sorted} → p ≡ q → s ≡ sorted_rows c p.levels p.ancestors n tree (level_at p.levels x)
+    → s ≡ sorted_rows c q.levels q.ancestors n tree (level_at q.levels x)
+sorted_same p q c n tree x e h = rw e at h

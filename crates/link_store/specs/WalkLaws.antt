@@ -1,19 +1,18 @@
 -- The joins and the walk from what each call leaves.
-use Rattle.std.specs.Prelude.{◌≡◌, ◌≢◌, ℕ, suc, ◌+◌, ◌-◌, ◌≤◌, ◌<◌, ℤ, pos, ◌+ℤ◌}
+use Rattle.std.specs.Prelude.{◌≡◌, ◌≢◌, Option, Some, None, Result, Ok, Err, ℕ, suc, ◌+◌, ◌-◌, ◌≤◌, ◌<◌, ℤ, pos, ◌+ℤ◌}
 use Rattle.std.proofs.Common.{arith, eq-eqb, ne_eqb, le-leb, lt-ltb, le-ltb}
 use Rattle.std.proofs.lemmas.Bool.{lt-leb}
 use Rattle.tree_laws.specs.Ancestor.{none}
 use Rattle.table.specs.Layout.{label_place, face_place, root_place}
 use Rattle.table.specs.declared.refusal.Refusal.{Refusal}
 use Rattle.table.specs.Parts.{Parts, level_at}
+use Rattle.layer.specs.Checked.{Holds}
 use Rattle.layer.specs.Row.{field_at}
 use Rattle.growth_plan.specs.declared.row.Plan.{Plan}
 use Rattle.growth_plan.specs.declared.row.Planned.{Planned}
-use Rattle.growth_plan.specs.declared.row.Planned.TheVariants.{Grow, Start, Refuse}
+use Rattle.growth_plan.specs.declared.row.Planned.TheVariants.{Grow, Start}
 use Rattle.growth_plan.specs.PlannedRow.{marks_of, planned_row}
 use Rattle.growth_store.specs.Store.{Stored, stored, plan_stored}
-use Rattle.growth_plan.specs.declared.level.Level.{Level}
-use Rattle.growth_plan.specs.declared.level.Level.TheVariants.{At, Out}
 use Rattle.growth_plan.specs.Level.{level_from}
 use Rattle.link_store.specs.declared.joins.Joining.{Joining}
 use Rattle.link_store.specs.JoinRow.{number_for, planned_stored, joined_under, join_row}
@@ -21,29 +20,33 @@ use Rattle.link_store.specs.Walk.{within32, walking, joining, joined_on, next_de
 
 -- one join
 
-pub store_grown : (p : Parts) (n : ℕ) (o : Stored) (q : Planned) (g : Plan) → q ≡ Grow g → o ≡ plan_stored p n g → o ≡ planned_stored p n q
+pub store_grown : (p : Parts) (n : ℕ) (o : Stored) (q : Result Planned Refusal) (g : Plan) → q ≡ Ok (Grow g) → o ≡ plan_stored p n g → o ≡ planned_stored p n q
 unfolding planned_stored
 store_grown p n o q g e h = rw e h
 
-pub store_start : (p : Parts) (n : ℕ) (q : Planned) (k : ℕ) → q ≡ Start k → stored p 0 ≡ planned_stored p n q
+pub store_start : (p : Parts) (n : ℕ) (q : Result Planned Refusal) (k : ℕ) → q ≡ Ok (Start k) → stored p 0 ≡ planned_stored p n q
 unfolding planned_stored
 store_start p n q k e = rw e
 
-pub store_refused : (p : Parts) (n : ℕ) (q : Planned) (r : Refusal) → q ≡ Refuse r → stored p 0 ≡ planned_stored p n q
+pub store_refused : (p : Parts) (n : ℕ) (q : Result Planned Refusal) (r : Refusal) → q ≡ Err r → stored p 0 ≡ planned_stored p n q
 unfolding planned_stored
 store_refused p n q r e = rw e
 
-module _ (p : Parts) (n x door z : ℕ) {v : ℕ} {level : Level} (under : v ≡ field_at p.fields z root_place)
+module _ (p : Parts) (n x door z : ℕ) {v : ℕ} {level : Option ℤ} (under : v ≡ field_at p.fields z root_place)
     (told : level ≡ level_from (level_at p.levels v) (level_at p.levels v +ℤ pos 1)) where
-  pub join_out : level ≡ Out → stored p 0 ≡ join_row p n x door z
+  pub join_out : level ≡ None → stored p 0 ≡ join_row p n x door z
   unfolding join_row joined_under
   join_out e = rw (← under, ← told, e)
 
-  pub join_at : {k : ℤ} {label face : ℕ} {planned : Planned} {o : Stored} → level ≡ At k → label ≡ number_for p.fields label_place x door z
+  pub join_at : {k : ℤ} {label face : ℕ} {planned : Result Planned Refusal} {o : Stored} → level ≡ Some k → label ≡ number_for p.fields label_place x door z
       → face ≡ number_for p.fields face_place x 0 z
       → planned ≡ planned_row p.fields p.numbers p.ancestors n z v (marks_of k z label face none) → o ≡ planned_stored p n planned → o ≡ join_row p n x door z
   unfolding join_row joined_under
   join_at e f i g h = rw (← under, ← told, e, ← f, ← i, ← g) h
+
+-- the same parts, read, hold as many rows
+pub holds_same : (p q : Parts) (n : ℕ) → p ≡ q → Holds n q.fields q.numbers → Holds n p.fields p.numbers
+holds_same p q n e h = rw e h
 
 -- sums
 

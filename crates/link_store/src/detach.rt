@@ -24,10 +24,8 @@ fn keep_parent(fields: &mut [u16], ancestors: &[u16], tree: u16, w: u16)
 fn keep_parents(fields: &mut [u16], ancestors: &[u16], n: u16, tree: u16)
     ensures { fields.new ≡ kept_parents ancestors.now tree n 0 fields.old }
 {
-    let mut w: u16 = 0;
-    while w < n {
+    for w in 0..n {
         keep_parent(fields, ancestors, tree, w);
-        w += 1;
     }
 }
 
@@ -37,8 +35,7 @@ fn turn_line(fields: &mut [u16], n: u16, x: u16, v: u16)
 {
     let mut z = x;
     let mut under = v;
-    let mut k: u16 = 0;
-    while k < n {
+    for _ in 0..n {
         let above = field(fields, z, PARENT);
         put_field(fields, z, ROOT, under);
         if above == NONE {
@@ -46,7 +43,6 @@ fn turn_line(fields: &mut [u16], n: u16, x: u16, v: u16)
         }
         under = z;
         z = above;
-        k += 1;
     }
     put_field(fields, z, ROOT, under);
 }
@@ -65,10 +61,8 @@ fn part_row(fields: &mut [u16], numbers: &mut [u64], ancestors: &mut [u16], tree
 fn part_rows(fields: &mut [u16], numbers: &mut [u64], ancestors: &mut [u16], n: u16, tree: u16)
     ensures { written fields.new numbers.new ancestors.new ≡ parted_rows tree n 0 (written fields.old numbers.old ancestors.old) }
 {
-    let mut row: u16 = 0;
-    while row < n {
+    for row in 0..n {
         part_row(fields, numbers, ancestors, tree, row);
-        row += 1;
     }
 }
 

@@ -1,21 +1,24 @@
 // The joins of a link: the rows that wait, each alone, come one after another under the rows that their root fields name.
 ghost use Rattle.std.specs.Prelude.{◌≡◌, ◌+◌, ◌*◌, pos, ◌+ℤ◌};
-ghost use Rattle.table.specs.Parts.{level_at, parts_of};
+ghost use Rattle.table.specs.Lent.{parts_in_mut, SameLoans};
+ghost use Rattle.table.specs.Parts.{level_at};
 ghost use Rattle.layer.specs.Checked.{Holds};
-ghost use Rattle.growth_store.specs.Store.{stored};
+ghost use Rattle.growth_store.specs.Store.{SameLengths, stored};
 ghost use Rattle.growth_plan.specs.Level.{level_from};
 ghost use Rattle.link_store.specs.JoinRow.{number_for, planned_stored, join_row};
 ghost use Rattle.link_store.specs.Sort.{cell_at};
 ghost use Rattle.link_store.specs.Walk.{within32, walking, joining, next_depth, join_turn, join_walk};
 
 use cells::cell;
-use growth_plan::level::{Level, leaf_level};
+use growth_plan::level::leaf_level;
 use growth_plan::row::{Marks, Planned, plan_row};
 use growth_store::store::store;
 use layer::layout::NONE;
 use layer::row::field;
 use table::layout::{FACE, LABEL, ROOT};
 use table::level::level;
+use table::parts::PartsMut;
+use table::refusal::Refusal;
 
 // Where the walk stands: a row, its depth below the linked root, and how many rows were renumbered.
 #[derive(Drop)]
@@ -36,59 +39,48 @@ fn number_for(fields: &[u16], place: u16, x: u16, v: u16, z: u16) -> u16
 }
 
 // One level below row v, where that is a level.
-fn level_under(levels: &[i32], v: u16) -> Level
+fn level_under(levels: &[i32], v: u16) -> Option<i32>
     ensures { result ≡ level_from (level_at levels.now v) (level_at levels.now v +ℤ pos 1) }
 {
     leaf_level(level(levels, v))
 }
 
 // What was planned: the stores, or nothing.
-fn store_planned(
-    fields: &mut [u16],
-    numbers: &mut [u64],
-    levels: &mut [i32],
-    ancestors: &mut [u16],
-    n: u16,
-    planned: Planned,
-) -> u16
-    ensures { stored (parts_of fields.new numbers.new levels.new ancestors.new) result ≡ planned_stored (parts_of fields.old numbers.old levels.old ancestors.old) n planned }
+fn store_planned(parts: &mut PartsMut<'_>, n: u16, planned: Result<Planned, Refusal>) -> u16
+    ensures stored { stored (parts_in_mut parts.new) result ≡ planned_stored (parts_in_mut parts.old) n planned }
+    ensures loans { SameLoans parts.old parts.new }
+    ensures lengths { SameLengths parts.old parts.new }
 {
     match planned {
-        Planned::Grow(g) => store(fields, numbers, levels, ancestors, n, g),
-        Planned::Start(_) => 0,
-        Planned::Refuse(_) => 0,
+        Ok(Planned::Grow(g)) => store(parts, n, g),
+        Ok(Planned::Start(_)) => 0,
+        Err(_) => 0,
     }
 }
 
 // Row z joins, and how many rows that renumbers. The linked root x takes the door as its label, and the front.
-fn join_row(
-    fields: &mut [u16],
-    numbers: &mut [u64],
-    levels: &mut [i32],
-    ancestors: &mut [u16],
-    n: u16,
-    x: u16,
-    door: u16,
-    z: u16,
-) -> u16
-    requires { Holds n fields.old numbers.old }
-    ensures { stored (parts_of fields.new numbers.new levels.new ancestors.new) result ≡ join_row (parts_of fields.old numbers.old levels.old ancestors.old) n x door z }
+fn join_row(parts: &mut PartsMut<'_>, n: u16, x: u16, door: u16, z: u16) -> u16
+    requires { Holds n parts.old.fields.now parts.old.numbers.now }
+    ensures stored { stored (parts_in_mut parts.new) result ≡ join_row (parts_in_mut parts.old) n x door z }
+    ensures loans { SameLoans parts.old parts.new }
+    ensures lengths { SameLengths parts.old parts.new }
 {
-    let v = field(fields, z, ROOT);
-    let label = number_for(fields, LABEL, x, door, z);
-    let face = number_for(fields, FACE, x, 0, z);
-    let Level::At(l) = level_under(levels, v) else {
+    let lent = parts.read();
+    let v = field(lent.fields, z, ROOT);
+    let label = number_for(lent.fields, LABEL, x, door, z);
+    let face = number_for(lent.fields, FACE, x, 0, z);
+    let Some(level) = level_under(lent.levels, v) else {
         return 0;
     };
     let marks = Marks {
-        level: l,
+        level,
         labelled: z,
-        label: label,
-        face: face,
+        label,
+        face,
         tree: NONE,
     };
-    let planned = plan_row(fields, numbers, ancestors, n, z, v, marks);
-    store_planned(fields, numbers, levels, ancestors, n, planned)
+    let planned = plan_row(lent.fields, lent.numbers, lent.ancestors, n, z, v, marks);
+    store_planned(parts, n, planned)
 }
 
 // Rows added up in 32 bits.
@@ -122,10 +114,7 @@ fn next_depth(heads: &[u16], n: u16, j: Joining) -> Joining
 
 // One turn of the walk.
 fn join_turn(
-    fields: &mut [u16],
-    numbers: &mut [u64],
-    levels: &mut [i32],
-    ancestors: &mut [u16],
+    parts: &mut PartsMut<'_>,
     heads: &[u16],
     links: &[u16],
     n: u16,
@@ -133,14 +122,16 @@ fn join_turn(
     door: u16,
     j: Joining,
 ) -> Joining
-    requires { Holds n fields.old numbers.old }
-    ensures { walking (parts_of fields.new numbers.new levels.new ancestors.new) result ≡ join_turn (cell_at heads.now) (cell_at links.now) n x door (walking (parts_of fields.old numbers.old levels.old ancestors.old) j) }
+    requires { Holds n parts.old.fields.now parts.old.numbers.now }
+    ensures walked { walking (parts_in_mut parts.new) result ≡ join_turn (cell_at heads.now) (cell_at links.now) n x door (walking (parts_in_mut parts.old) j) }
+    ensures loans { SameLoans parts.old parts.new }
+    ensures lengths { SameLengths parts.old parts.new }
 {
     if j.row == NONE {
         return next_depth(heads, n, j);
     }
     let next = cell(links, j.row);
-    let rows = join_row(fields, numbers, levels, ancestors, n, x, door, j.row);
+    let rows = join_row(parts, n, x, door, j.row);
     Joining {
         row: next,
         depth: j.depth,
@@ -150,31 +141,24 @@ fn join_turn(
 
 // All rows of the lists, depth by depth; two turns for each row in use are enough.
 pub fn join_walk(
-    fields: &mut [u16],
-    numbers: &mut [u64],
-    levels: &mut [i32],
-    ancestors: &mut [u16],
+    parts: &mut PartsMut<'_>,
     heads: &[u16],
     links: &[u16],
     n: u16,
     x: u16,
     door: u16,
 ) -> u32
-    requires { Holds n fields.old numbers.old }
-    ensures { stored (parts_of fields.new numbers.new levels.new ancestors.new) result ≡ join_walk (2 * n) (cell_at heads.now) (cell_at links.now) n x door (walking (parts_of fields.old numbers.old levels.old ancestors.old) (joining (cell_at heads.now 0) 0 0)) }
+    requires { Holds n parts.old.fields.now parts.old.numbers.now }
+    ensures stored { stored (parts_in_mut parts.new) result ≡ join_walk (2 * n) (cell_at heads.now) (cell_at links.now) n x door (walking (parts_in_mut parts.old) (joining (cell_at heads.now 0) 0 0)) }
+    ensures loans { SameLoans parts.old parts.new }
 {
     let mut j = Joining {
         row: cell(heads, 0),
         depth: 0,
         rows: 0,
     };
-    let steps = (n as u32) * 2;
-    let mut k: u32 = 0;
-    while k < steps {
-        j = join_turn(
-            fields, numbers, levels, ancestors, heads, links, n, x, door, j,
-        );
-        k += 1;
+    for _ in 0..(n as u32) * 2 {
+        j = join_turn(parts, heads, links, n, x, door, j);
     }
     j.rows
 }

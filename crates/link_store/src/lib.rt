@@ -3,7 +3,7 @@
 #![tactic(auto)]
 
 ghost use Rattle.std.specs.Prelude.{◌≡◌, ◌≤◌, length};
-ghost use Rattle.table.specs.Parts.{parts_of};
+ghost use Rattle.table.specs.Lent.{parts_in_mut, SameLoans};
 ghost use Rattle.table.specs.Capacity.{node_limit};
 ghost use Rattle.layer.specs.Checked.{Holds};
 ghost use Rattle.growth_store.specs.Store.{stored};
@@ -13,6 +13,7 @@ use crate::detach::detach;
 use crate::joins::join_walk;
 use crate::sort::sort_rows;
 use inspect::work;
+use table::parts::PartsMut;
 
 mod detach;
 mod joins;
@@ -20,10 +21,7 @@ mod sort;
 
 // The rows of a tree, sorted in `heads` and `links`, detached, and joined in their order.
 fn join_tree(
-    fields: &mut [u16],
-    numbers: &mut [u64],
-    levels: &mut [i32],
-    ancestors: &mut [u16],
+    parts: &mut PartsMut<'_>,
     heads: &mut [u16],
     links: &mut [u16],
     n: u16,
@@ -32,21 +30,20 @@ fn join_tree(
     v: u16,
     door: u16,
 ) -> u32
-    requires holds { Holds n fields.old numbers.old }
+    requires holds { Holds n parts.old.fields.now parts.old.numbers.now }
     requires heads_len { length heads.old ≡ length links.old }
-    ensures { stored (parts_of fields.new numbers.new levels.new ancestors.new) result ≡ joined_tree (parts_of fields.old numbers.old levels.old ancestors.old) (length links.old) n tree x v door }
+    ensures stored { stored (parts_in_mut parts.new) result ≡ joined_tree (parts_in_mut parts.old) (length links.old) n tree x v door }
+    ensures loans { SameLoans parts.old parts.new }
 {
-    sort_rows(levels, ancestors, heads, links, n, tree, x);
-    detach(fields, numbers, ancestors, n, tree, x, v);
-    join_walk(fields, numbers, levels, ancestors, heads, links, n, x, door)
+    let lent = parts.read();
+    sort_rows(lent.levels, lent.ancestors, heads, links, n, tree, x);
+    detach(parts.fields, parts.numbers, parts.ancestors, n, tree, x, v);
+    join_walk(parts, heads, links, n, x, door)
 }
 
 // The same with heads in memory of our own: one number to a row is lent, and two are needed.
 pub fn store_link(
-    fields: &mut [u16],
-    numbers: &mut [u64],
-    levels: &mut [i32],
-    ancestors: &mut [u16],
+    parts: &mut PartsMut<'_>,
     scratch: &mut [u16],
     n: u16,
     tree: u16,
@@ -54,23 +51,12 @@ pub fn store_link(
     v: u16,
     door: u16,
 ) -> u32
-    requires holds { Holds n fields.old numbers.old }
+    requires holds { Holds n parts.old.fields.now parts.old.numbers.now }
     requires scratch_len_bound { length scratch.old ≤ node_limit }
-    ensures { stored (parts_of fields.new numbers.new levels.new ancestors.new) result ≡ joined_tree (parts_of fields.old numbers.old levels.old ancestors.old) (length scratch.old) n tree x v door }
+    ensures stored { stored (parts_in_mut parts.new) result ≡ joined_tree (parts_in_mut parts.old) (length scratch.old) n tree x v door }
+    ensures loans { SameLoans parts.old parts.new }
 {
     let cap = scratch.len();
     let mut own = work();
-    join_tree(
-        fields,
-        numbers,
-        levels,
-        ancestors,
-        &mut own[..cap],
-        scratch,
-        n,
-        tree,
-        x,
-        v,
-        door,
-    )
+    join_tree(parts, &mut own[..cap], scratch, n, tree, x, v, door)
 }

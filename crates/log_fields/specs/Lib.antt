@@ -1,4 +1,5 @@
 pub mod Bytes
+pub mod Fault
 pub mod Outcome
 pub mod OutcomeLaws
 pub mod Field

@@ -1,7 +1,8 @@
 -- What reading a field gives, in document 01's numbers, and which of them each case of `Field` stands for.
 use Rattle.std.specs.Prelude.{List, [], ◌∷◌, Option, Some, None, ℕ}
 use Rattle.log_fields.specs.declared.Field.{Field}
-use Rattle.log_fields.specs.declared.Field.TheVariants.{End, BadTag, BadLength, Truncated, DirtyFiller, Leaf, Root, Question, Alike, Filler}
+use Rattle.log_fields.specs.declared.Field.TheVariants.{End, Refused, Leaf, Root, Question, Alike, Filler}
+use Rattle.log_fields.specs.Fault.{number_of}
 
 -- the log's end; a refusal's number and the next place; or a field's kind, its values and the next place
 pub data Outcome : Type 0 where
@@ -17,10 +18,7 @@ root_told (Some opening) = 1 ∷ opening ∷ []
 -- the numbers and values of each case
 abbrev pub outcome_of : Field → Outcome
 outcome_of End = end
-outcome_of (BadTag next) = refusal 6 next
-outcome_of (BadLength next) = refusal 7 next
-outcome_of (Truncated next) = refusal 8 next
-outcome_of (DirtyFiller next) = refusal 9 next
+outcome_of (Refused fault next) = refusal (number_of fault) next
 outcome_of (Leaf parent label face next) = field 1 (parent ∷ label ∷ face ∷ []) next
 outcome_of (Root opening next) = field 2 (root_told opening) next
 outcome_of (Question x y next) = field 3 (x ∷ y ∷ []) next

@@ -2,8 +2,11 @@
 use Rattle.std.specs.Prelude.{◌≡◌, refl, List, Option, Some, None, ℕ, get_or, eqb}
 use Rattle.std.proofs.Common.{sym, ap, ◌∙◌}
 use Rattle.laws.specs.Test.{pick}
+use Rattle.log_fields.specs.declared.fault.Fault.{Fault}
+use Rattle.log_fields.specs.declared.fault.Fault.TheVariants.{BadTag, BadLength, Truncated, DirtyFiller}
 use Rattle.log_fields.specs.declared.Field.{Field}
-use Rattle.log_fields.specs.declared.Field.TheVariants.{End, BadTag, BadLength, Truncated, DirtyFiller, Leaf, Root, Question, Alike, Filler}
+use Rattle.log_fields.specs.declared.Field.TheVariants.{End, Refused, Leaf, Root, Question, Alike, Filler}
+use Rattle.log_fields.specs.Fault.{number_of}
 use Rattle.log_fields.specs.Outcome.{Outcome, end, refusal, field, root_told, outcome_of}
 
 -- what a root tells says which opening it names, or none
@@ -14,10 +17,21 @@ pub opening_told : (opening : Option ℕ) → opening_in (root_told opening) ≡
 opening_told None = refl
 opening_told (Some opening) = refl
 
+-- the refusal of a number
+fault_of : ℕ → Fault
+fault_of n = pick (eqb n 6) BadTag (pick (eqb n 7) BadLength (pick (eqb n 8) Truncated DirtyFiller))
+
+fault_told : (f : Fault) → fault_of (number_of f) ≡ f
+unfolding fault_of
+fault_told BadTag = refl
+fault_told BadLength = refl
+fault_told Truncated = refl
+fault_told DirtyFiller = refl
+
 -- the case that an outcome stands for
 case_of : Outcome → Field
 case_of end = End
-case_of (refusal n next) = pick (eqb n 6) (BadTag next) (pick (eqb n 7) (BadLength next) (pick (eqb n 8) (Truncated next) (DirtyFiller next)))
+case_of (refusal n next) = Refused (fault_of n) next
 case_of (field kind v next) =
     pick (eqb kind 1) (Leaf (get_or v 0 0) (get_or v 1 0) (get_or v 2 0) next)
     (pick (eqb kind 2) (Root (opening_in v) next)
@@ -28,10 +42,7 @@ case_of (field kind v next) =
 case_outcome : (f : Field) → case_of (outcome_of f) ≡ f
 unfolding case_of
 case_outcome End = refl
-case_outcome (BadTag next) = refl
-case_outcome (BadLength next) = refl
-case_outcome (Truncated next) = refl
-case_outcome (DirtyFiller next) = refl
+case_outcome (Refused fault next) = ap (λ f. Refused f next) (fault_told fault)
 case_outcome (Leaf parent label face next) = refl
 case_outcome (Root opening next) = rw (opening_told opening)
 case_outcome (Question x y next) = refl

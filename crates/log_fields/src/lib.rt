@@ -3,6 +3,7 @@
 #![tactic(auto)]
 
 mod bytes;
+mod fault;
 
 ghost use Rattle.std.specs.Prelude.{◌≡◌};
 ghost use Rattle.log_fields.specs.Outcome.{outcome_of};
@@ -10,17 +11,14 @@ ghost use Rattle.log_fields.specs.Field.{whole_field, next_at, field_at};
 ghost use Rattle.log_fields.specs.Body.{IsBody};
 
 use bytes::number_at;
+pub use fault::Fault;
 use zeros::all_zero;
 
 // What stands at a place of a log. All but the end hold, last, the place to go on from.
 #[derive(Drop)]
 pub enum Field {
     End,
-    // Refusals 6 to 9: odd tag, odd length, cut short, dirty filler.
-    BadTag(usize),
-    BadLength(usize),
-    Truncated(usize),
-    DirtyFiller(usize),
+    Refused(Fault, usize),
     // The five kinds of field; the root is the paper's top, the label its panel. A leaf of tag 1 has face 0, the front.
     Leaf {
         parent: u16,
@@ -96,10 +94,10 @@ fn whole_field(tag: u8, body: &[u8], next: usize) -> Field
             y: number_at(body, 2),
             next,
         },
-        (LEAF | FACED_LEAF | ROOT | QUESTION | ALIKE, _) => Field::BadLength(next),
+        (LEAF | FACED_LEAF | ROOT | QUESTION | ALIKE, _) => Field::Refused(Fault::BadLength, next),
         (FILLER, _) if all_zero(body) => Field::Filler(next),
-        (FILLER, _) => Field::DirtyFiller(next),
-        _ => Field::BadTag(next),
+        (FILLER, _) => Field::Refused(Fault::DirtyFiller, next),
+        _ => Field::Refused(Fault::BadTag, next),
     }
 }
 
@@ -140,7 +138,7 @@ pub fn field_at(log: &[u8], at: usize) -> Field
     }
     let next = next_at(log, at);
     if next == at {
-        return Field::Truncated(at);
+        return Field::Refused(Fault::Truncated, at);
     }
     whole_field(log[at], body_at(log, at), next)
 }

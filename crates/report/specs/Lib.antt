@@ -1,4 +1,3 @@
 pub mod Printed
-pub mod PrintedLaws
 pub mod Report
 pub mod ReportLaws

@@ -1,5 +1,5 @@
 -- First nodes, leaves and new roots, where the table stands beside the plain list: refused as it refuses, or served.
-use Rattle.std.specs.Prelude.{◌≡◌, Bool, true, false, ◌≢◌, List, ℕ, ◌≤◌, ◌<◌, length}
+use Rattle.std.specs.Prelude.{◌≡◌, Bool, true, false, ◌≢◌, List, Err, ℕ, ◌≤◌, ◌<◌, length}
 use Rattle.std.proofs.Math.Path.{refl, sym, ap}
 use Rattle.std.proofs.Common.{◌∙◌, eq-eqb, ne_eqb}
 use Rattle.std.proofs.Math.Decide.{dec_lt, ℕ_discrete}
@@ -13,7 +13,6 @@ use Rattle.table.specs.PlainTree.{plain, root as root_of}
 use Rattle.table.specs.Rules.{label_limit, face_limit}
 use Rattle.table.specs.Scratch.{least_scratch}
 use Rattle.table_laws.specs.TreeTests.{root_is}
-use Rattle.growth_plan.specs.declared.row.Planned.TheVariants.{Refuse}
 use Rattle.growth_plan.specs.Plan.{is_opening, first_plan, leaf_plan, over_plan, root_plan}
 use Rattle.growth_plan.specs.PlanLaws.{leaf_unknown, leaf_label, leaf_face, leaf_full, first_full, root_label, root_full, over_unknown, over_label, over_other, over_full}
 use Rattle.growth.specs.Growth.{Result, add_first, add_leaf, add_over, add_root}
@@ -85,7 +84,7 @@ module _ {c : ℕ} {f : Fast} {p : PlainList} {stored : StoredList} {total joini
 
   module _ (scratch : List ℕ) where
     first_refused : least_scratch ≤ length scratch → (r : Refusal) → plain_outcome c p (plain_first (length scratch)) ≡ refusal_of (number_of r) p
-        → Refuse r ≡ first_plan f.parts f.state
+        → Err r ≡ first_plan f.parts f.state
         → StepStands c f p stored total joinings (first scratch) (plain_outcome c p (plain_first (length scratch))) (step f (first scratch))
     unfolding step add_first
     first_refused h r e i = grown_refused s (first scratch) _ (length scratch) _ h r e i
@@ -111,7 +110,7 @@ module _ {c : ℕ} {f : Fast} {p : PlainList} {stored : StoredList} {total joini
     LeafStep = StepStands c f p stored total joinings (leaf v l a scratch) (plain_outcome c p (plain_leaf v l a (length scratch))) (step f (leaf v l a scratch))
 
     leaf_refused : least_scratch ≤ length scratch → (r : Refusal) → plain_outcome c p (plain_leaf v l a (length scratch)) ≡ refusal_of (number_of r) p
-        → Refuse r ≡ leaf_plan f.parts f.state v l a → LeafStep
+        → Err r ≡ leaf_plan f.parts f.state v l a → LeafStep
     unfolding step add_leaf
     leaf_refused h r e i = grown_refused s (leaf v l a scratch) _ (length scratch) _ h r e i
 
@@ -163,7 +162,7 @@ module _ {c : ℕ} {f : Fast} {p : PlainList} {stored : StoredList} {total joini
     RootStep = StepStands c f p stored total joinings (root named opening scratch) (plain_outcome c p (plain_root named opening (length scratch))) (step f (root named opening scratch))
 
     root_refused : least_scratch ≤ length scratch → (r : Refusal) → plain_outcome c p (plain_root named opening (length scratch)) ≡ refusal_of (number_of r) p
-        → Refuse r ≡ root_plan f.parts f.state named opening → RootStep
+        → Err r ≡ root_plan f.parts f.state named opening → RootStep
     unfolding step add_root
     root_refused h r e i = grown_refused s (root named opening scratch) _ (length scratch) _ h r e i
 
@@ -208,7 +207,7 @@ module _ {c : ℕ} {f : Fast} {p : PlainList} {stored : StoredList} {total joini
         (step f (root_over x named opening scratch))
 
     over_refused : least_scratch ≤ length scratch → (r : Refusal) → plain_outcome c p (plain_over x named opening (length scratch)) ≡ refusal_of (number_of r) p
-        → Refuse r ≡ over_plan f.parts f.state x named opening → OverStep
+        → Err r ≡ over_plan f.parts f.state x named opening → OverStep
     unfolding step add_over
     over_refused h r e i = grown_refused s (root_over x named opening scratch) _ (length scratch) _ h r e i
 

@@ -1,10 +1,9 @@
 -- A growth, where the table stands beside the plain list: served, and the table stands beside it again, or refused as it refuses.
-use Rattle.std.specs.Prelude.{◌≡◌, refl, ℕ, suc, ◌≤◌, ◌<◌}
+use Rattle.std.specs.Prelude.{◌≡◌, refl, Some, Result, Err, ℕ, suc, ◌≤◌, ◌<◌}
 use Rattle.std.proofs.Common.{sym, ap, ◌∙◌, arith, eq-eqb, ne_eqb, le-leb}
 use Rattle.std.proofs.Math.Decide.{dec_lt}
 use Rattle.std.proofs.lemmas.Bool.{lt-leb}
 use Rattle.tree_laws.specs.Ancestor.{none}
-use Rattle.table.specs.declared.capacity.Fit.TheVariants.{Capacity}
 use Rattle.table.specs.declared.refusal.Refusal.{Refusal}
 use Rattle.table.specs.declared.refusal.Refusal.TheVariants.{Misfit}
 use Rattle.table.specs.Refusal.{number_of}
@@ -16,7 +15,6 @@ use Rattle.table.proofs.CapacityLaws.{fits_told}
 use Rattle.table.proofs.Rules.{numbered}
 use Rattle.table.specs.Scratch.{least_scratch}
 use Rattle.growth_plan.specs.declared.row.Planned.{Planned}
-use Rattle.growth_plan.specs.declared.row.Planned.TheVariants.{Refuse}
 use Rattle.growth.specs.Outcome.{Outcome, refused}
 use Rattle.tally.specs.FitLaws.{with_told}
 use Rattle.growth.specs.Growth.{Result, growth_result, grown_by}
@@ -148,10 +146,10 @@ module _ {c : ℕ} {f : Fast} {p : PlainList} {stored : StoredList} {total joini
 
   -- Refused
 
-  pub fit : Capacity c ≡ capacity_of f.parts
+  pub fit : Some c ≡ capacity_of f.parts
   fit = sym (fits_told s.fits)
 
-  module _ (q : Call) (o : PlainOutcome) (scratch : ℕ) (z : Planned) where
+  module _ (q : Call) (o : PlainOutcome) (scratch : ℕ) (z : Result Planned Refusal) where
     abbrev GrowthStep : Type 0
     GrowthStep = StepStands c f p stored total joinings q o (after_growth f.state (grown_by f.parts f.tally scratch z))
 
@@ -159,7 +157,7 @@ module _ {c : ℕ} {f : Fast} {p : PlainList} {stored : StoredList} {total joini
     refused_by r e i = steps_by s q (plain_refusal (number_of r)) (refusal (number_of r)) e (ap (after_growth f.state) (sym i)) (still_refused s q (number_of r))
 
     -- by its plan, where the scratch fits
-    pub grown_refused : least_scratch ≤ scratch → (r : Refusal) → o ≡ refusal_of (number_of r) p → Refuse r ≡ z → GrowthStep
+    pub grown_refused : least_scratch ≤ scratch → (r : Refusal) → o ≡ refusal_of (number_of r) p → Err r ≡ z → GrowthStep
     grown_refused h r e i = refused_by r e
         (grow_refused f.parts f.tally scratch z (le-leb least_scratch scratch h) c (sym (with_told f.parts f.tally s.fits s.tally.long)) r (sym i))
 

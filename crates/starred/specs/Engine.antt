@@ -33,7 +33,7 @@ use Rattle.renumber.specs.Entries.{entries_from, above_of, with_entries}
 use Rattle.renumber.specs.Renumber.{renumbered}
 use Rattle.layer.specs.Checked.{is_row}
 use Rattle.join.specs.Chain.{outgrown_at, top_from, raised_at, raised}
-use Rattle.join.specs.CheckWalk.{is_readable, entered, left_row, check_turn, check_walk}
+use Rattle.join.specs.CheckWalk.{is_readable, entered, left_row, check_turn, turned, check_walk}
 use Rattle.join.specs.Copied.{are_links, copies_links}
 use Rattle.join.specs.Attach.{first_of, first_after, next_after, parent_after, new_links, new_values, linked, attached}
 use Rattle.join.specs.Seat.{upper_under, upper_for, old_head, head_of, is_first, is_seated, is_whole, seat_at, seat_of}
@@ -67,7 +67,7 @@ unfolding fourth
     tabulate blank parts_after tally_after capacity_with has_room with_most
     one_more turn arrival size_entered heavy_kept size_left offered_to size_turn size_walk light_or_last sibling_or_up heavy_last placed_row started row_numbered
     is_on_path upper_of size_of numbered_down numbered_to number_walk entries_from above_of with_entries renumbered
-    is_row level_from outgrown_at top_from raised_at raised is_readable entered left_row check_turn check_walk are_links copies_links first_of first_after next_after parent_after new_links
+    is_row level_from outgrown_at top_from raised_at raised is_readable entered left_row check_turn turned check_walk are_links copies_links first_of first_after next_after parent_after new_links
     new_values linked attached upper_under upper_for old_head head_of is_first is_seated is_whole seat_at seat_of joined_at planned_row leaf_within leaf_plan root_over root_within
     root_plan lone_fields lone_numbers lone_entries given marked plan_stored served started_fields tree_started grown_at grown_by add_leaf add_root
     sought_in covers arrive climb at_entry past_entry past_reach past_span side_from is_on_row forked meeting branch_of join between stored_from

@@ -1,5 +1,5 @@
 -- Header, fields and last line, one after another, are the transcript.
-use Rattle.std.specs.Prelude.{◌≡◌, Bool, true, false, List, ◌++◌, ℕ, ◌*◌, pos, length}
+use Rattle.std.specs.Prelude.{◌≡◌, Bool, true, false, Result, Ok, Err, List, ◌++◌, ℕ, ◌*◌, pos, length}
 use Rattle.std.proofs.Common.{sym, ◌∙◌, true≢false, arith}
 use Rattle.std.proofs.Math.Path.{ap}
 use Rattle.std.proofs.lemmas.List.{length-replicate}
@@ -12,8 +12,6 @@ use Rattle.layer.specs.Layout.{field_stride, number_stride, entry_stride}
 use Rattle.table.specs.Parts.{Parts}
 use Rattle.table.specs.Capacity.{Fits}
 use Rattle.tally.specs.Layout.{tally_length}
-use Rattle.set_up.specs.declared.Made.{Made}
-use Rattle.set_up.specs.declared.Made.TheVariants.{Empty, Refused}
 use Rattle.set_up.specs.Outcome.{Outcome, refusal, empty, outcome_of}
 use Rattle.set_up.specs.Blank.{set_up, parts_after, tally_after}
 use Rattle.set_up.specs.BlankLaws.{set_up_served}
@@ -52,11 +50,11 @@ count_in : Outcome → ℕ
 count_in (empty c) = c
 count_in (refusal n) = 0
 
-pub set_up_not_refused : (m : Made) (r : Refusal) → outcome_of m ≡ set_up lent lent_tally → m ≡ Refused r → ⊥
+pub set_up_not_refused : (m : Result State Refusal) (r : Refusal) → outcome_of m ≡ set_up lent lent_tally → m ≡ Err r → ⊥
 unfolding is_empty
 set_up_not_refused m r e f = true≢false (ap is_empty (sym lent_empty ∙ sym e ∙ ap outcome_of f))
 
-pub set_up_state : (m : Made) (s : State) → outcome_of m ≡ set_up lent lent_tally → m ≡ Empty s → s ≡ none_yet
+pub set_up_state : (m : Result State Refusal) (s : State) → outcome_of m ≡ set_up lent lent_tally → m ≡ Ok s → s ≡ none_yet
 unfolding count_in
 set_up_state m s e f = ap (λ (c : ℕ). record { count = c }) (ap count_in (ap outcome_of (sym f) ∙ e ∙ lent_empty))
 

@@ -12,12 +12,7 @@ pub fn put_text(out: &mut [u8], filled: usize, text: Text) -> usize
     ensures text { take result out.new ≡ take filled out.old ++ written text }
     ensures filled { result ≡ filled + text.len }
 {
-    let bytes = text.bytes;
-    let len = text.len;
-    let mut i: usize = 0;
-    while i < len {
-        out[filled + i] = bytes[i];
-        i += 1;
-    }
-    filled + len
+    let end = filled + text.len;
+    out[filled..end].copy_from_slice(&text.bytes[..text.len]);
+    end
 }

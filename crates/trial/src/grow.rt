@@ -1,15 +1,15 @@
 // The engine's table and the plain list side by side, call by call, with an inspection and a full count of labels after each.
-use crate::call::{
-    Call, after, call_of, first_named, letter_of, refusal_of, second_named, seed_after,
-};
-use crate::checks::{Checks, noted};
+use crate::call::{Call, call_of, seed_after};
+use crate::checks::Checks;
 use crate::count::is_tallied;
 use crate::head::{heads_growth, heads_link};
-use crate::tree::{Tree, members_in};
-use growth::{Grown, Growth, add_first, add_leaf, add_root, add_root_over};
-use inspect::{Inspected, inspect};
-use link::{Joined, Linked, link};
-use table::refusal::number_of;
+use crate::shape::Shape;
+use crate::tree::Tree;
+use growth::{Growth, add_first, add_leaf, add_root, add_root_over};
+use inspect::inspect;
+use link::{Joined, link};
+use table::parts::PartsMut;
+use table::refusal::Refusal;
 use table::scratch::LEAST_SCRATCH;
 use table::state::State;
 
@@ -24,265 +24,142 @@ pub struct Run {
     pub seed: u64,
 }
 
-// What the engine answered to a call.
+// What the engine answered to a call that it served.
 #[derive(Drop)]
 enum Found {
-    Refused(u16),
     Growth(Growth),
     Joined(Joined),
 }
 
-fn plus(total: u64, more: u64) -> u64 {
-    if total < 1000000000 {
-        if more < 1000000000 {
-            return total + more;
-        }
-    }
-    total
-}
-
 // At most 120 rows to a joining.
 fn is_paid(total: u64, joinings: u64) -> bool {
-    if 1000000000 <= joinings {
-        return false;
+    total <= joinings.saturating_mul(120)
+}
+
+impl Run {
+    // One comparison more, of this call.
+    fn noted(self, equal: bool, call: Call) -> Self {
+        let checks = self.checks.noted(
+            equal,
+            call.letter(),
+            call.first_named(),
+            call.second_named(),
+        );
+        Self { checks, ..self }
     }
-    total <= 120 * joinings
-}
 
-// One comparison more, of this call.
-fn noted_call(checks: Checks, equal: bool, call: Call) -> Checks {
-    noted(
-        checks,
-        equal,
-        letter_of(call),
-        first_named(call),
-        second_named(call),
-    )
-}
-
-// The run after a call that was refused.
-fn refused(run: Run, equal: bool, call: Call) -> Run {
-    let checks = run.checks;
-    let mut r = run;
-    r.checks = noted_call(checks, equal, call);
-    r
-}
-
-// The run after a call that was served: so many nodes joined, and so many rows were renumbered.
-fn served(
-    run: Run,
-    state: State,
-    after: Tree,
-    rows: u64,
-    joined: u64,
-    equal: bool,
-    call: Call,
-) -> Run {
-    let checks = run.checks;
-    let total = plus(run.total, rows);
-    let joinings = plus(run.joinings, joined);
-    Run {
-        state: state,
-        tree: after,
-        checks: noted_call(checks, equal && is_paid(total, joinings), call),
-        total: total,
-        joinings: joinings,
-        seed: run.seed,
+    // The run after a call that was served: so many rows were renumbered, and so many nodes joined.
+    fn served(self, state: State, rows: u64, joined: u64, equal: bool, call: Call) -> Self {
+        let total = self.total.saturating_add(rows);
+        let joinings = self.joinings.saturating_add(joined);
+        let noted = self.noted(equal && is_paid(total, joinings), call);
+        Self {
+            state,
+            tree: call.after(self.tree),
+            total,
+            joinings,
+            ..noted
+        }
     }
-}
 
-// Whether a served growth is the plain list's.
-fn is_growth(before: Tree, after: Tree, refusal: u16, found: &Growth) -> bool {
-    let s = found.state;
-    if refusal != 0 {
-        return false;
+    // The run after a growth that was served; `refusal` is the plain list's.
+    fn after_growth(self, fields: &[u16], call: Call, refusal: Option<Refusal>, g: Growth) -> Self {
+        let tree = call.after(self.tree);
+        let state = g.state;
+        let equal = refusal.is_none()
+            && g.node == self.tree.count
+            && state.count == tree.count
+            && heads_growth(fields, &g);
+        self.served(state, u64::from(g.rows), 1, equal, call)
     }
-    if found.node != before.count {
-        return false;
+
+    // The run after a link that was served.
+    fn after_link(self, fields: &[u16], call: Call, refusal: Option<Refusal>, l: Joined) -> Self {
+        let joined = self.tree.members(call.first_named()) as u64;
+        let equal = refusal.is_none() && heads_link(fields, call.second_named(), &l);
+        self.served(self.state, u64::from(l.rows), joined, equal, call)
     }
-    s.count == after.count
-}
 
-// The run after a growth that was served; `refusal` is the plain list's.
-fn after_growth(fields: &[u16], run: Run, call: Call, refusal: u16, g: Growth) -> Run {
-    let tree = run.tree;
-    let state = g.state;
-    let next = after(tree, call);
-    let equal = is_growth(tree, next, refusal, &g) && heads_growth(fields, &g);
-    served(run, state, next, g.rows as u64, 1, equal, call)
-}
-
-// The run after a link that was served.
-fn after_link(fields: &[u16], run: Run, call: Call, refusal: u16, l: Joined) -> Run {
-    let tree = run.tree;
-    let state = run.state;
-    let joined = members_in(tree, first_named(call));
-    let equal = refusal == 0 && heads_link(fields, second_named(call), &l);
-    served(
-        run,
-        state,
-        after(tree, call),
-        l.rows as u64,
-        joined,
-        equal,
-        call,
-    )
-}
-
-fn after_call(fields: &[u16], run: Run, call: Call, found: Found) -> Run {
-    let refusal = refusal_of(run.tree, call);
-    match found {
-        Found::Refused(n) => refused(run, n == refusal, call),
-        Found::Growth(g) => after_growth(fields, run, call, refusal, g),
-        Found::Joined(l) => after_link(fields, run, call, refusal, l),
+    fn after_call(self, fields: &[u16], call: Call, found: Result<Found, Refusal>) -> Self {
+        let refusal = call.refusal(&self.tree);
+        match found {
+            Err(r) => self.noted(refusal == Some(r), call),
+            Ok(Found::Growth(g)) => self.after_growth(fields, call, refusal, g),
+            Ok(Found::Joined(l)) => self.after_link(fields, call, refusal, l),
+        }
     }
-}
 
-fn of_growth(found: Grown) -> Found {
-    match found {
-        Grown::Node(g) => Found::Growth(g),
-        Grown::Refused(r) => Found::Refused(number_of(r)),
-    }
-}
-
-fn of_link(found: Linked) -> Found {
-    match found {
-        Linked::Under(l) => Found::Joined(l),
-        Linked::Refused(r) => Found::Refused(number_of(r)),
+    // The run with the seed of the next turn.
+    fn drawn(self) -> Self {
+        Self {
+            seed: seed_after(self.seed),
+            ..self
+        }
     }
 }
 
 // The call on the engine's table. A growth is lent the shortest scratch that fits, a link the table's.
 fn make(
-    fields: &mut [u16],
-    numbers: &mut [u64],
-    levels: &mut [i32],
-    ancestors: &mut [u16],
+    parts: &mut PartsMut<'_>,
     tally: &mut [u16],
     scratch: &mut [u16],
     state: State,
     call: Call,
-) -> Found {
+) -> Result<Found, Refusal> {
     let short = [7u16; LEAST_SCRATCH];
     match call {
-        Call::First => of_growth(add_first(
-            fields, numbers, levels, ancestors, tally, &short, state,
-        )),
-        Call::Root { named, opening } => of_growth(add_root(
-            fields, numbers, levels, ancestors, tally, &short, state, named, opening,
-        )),
-        Call::Over { x, named, opening } => of_growth(add_root_over(
-            fields, numbers, levels, ancestors, tally, &short, state, x, named, opening,
-        )),
-        Call::Leaf { x, label, face } => of_growth(add_leaf(
-            fields, numbers, levels, ancestors, tally, &short, state, x, label, face,
-        )),
-        Call::Link { x, v, label } => of_link(link(
-            fields, numbers, levels, ancestors, tally, scratch, state, x, v, label,
-        )),
+        Call::First => add_first(parts, tally, &short, state).map(Found::Growth),
+        Call::Root { opening } => add_root(parts, tally, &short, state, opening).map(Found::Growth),
+        Call::Over { x, opening } => add_root_over(parts, tally, &short, state, x, opening).map(
+            Found::Growth,
+        ),
+        Call::Leaf { x, label, face } => add_leaf(parts, tally, &short, state, x, label, face).map(
+            Found::Growth,
+        ),
+        Call::Link { x, v, label } => link(parts, tally, scratch, state, x, v, label).map(
+            Found::Joined,
+        ),
     }
 }
 
-fn passes(found: Inspected) -> bool {
-    match found {
-        Inspected::Passes(yes) => yes,
-        Inspected::Refused(_) => false,
-    }
+// Inspection, and a full count of labels.
+fn inspected(parts: &PartsMut<'_>, tally: &[u16], scratch: &mut [u16], run: Run, turn: u16) -> Run {
+    let passes = inspect(&parts.read(), tally, scratch, run.state).unwrap_or(false);
+    let checks = run
+        .checks
+        .noted(passes, 'I', turn, 0)
+        .noted(is_tallied(tally, &run.tree), 'K', turn, 0);
+    Run { checks, ..run }
 }
 
-fn inspected(
-    fields: &[u16],
-    numbers: &[u64],
-    levels: &[i32],
-    ancestors: &[u16],
-    tally: &[u16],
-    scratch: &mut [u16],
-    run: Run,
-    turn: u16,
-) -> Run {
-    let checks = run.checks;
-    let tree = run.tree;
-    let found = inspect(
-        fields, numbers, levels, ancestors, tally, scratch, run.state,
-    );
-    let seen = noted(checks, passes(found), b'I', turn, 0);
-    let mut r = run;
-    r.checks = noted(seen, is_tallied(tally, tree), b'K', turn, 0);
-    r
-}
-
-// The call of a turn, on both sides.
-fn call_once(
-    fields: &mut [u16],
-    numbers: &mut [u64],
-    levels: &mut [i32],
-    ancestors: &mut [u16],
-    tally: &mut [u16],
-    scratch: &mut [u16],
-    run: Run,
-    call: Call,
-) -> Run {
-    let found = make(
-        fields, numbers, levels, ancestors, tally, scratch, run.state, call,
-    );
-    after_call(fields, run, call, found)
-}
-
-// The run with the seed of the next turn.
-fn drawn(run: Run) -> Run {
-    let mut r = run;
-    r.seed = seed_after(run.seed);
-    r
-}
-
-// One call, an inspection, and a full count of labels.
+// One call on both sides, an inspection, and a full count of labels.
 fn grow_once(
-    fields: &mut [u16],
-    numbers: &mut [u64],
-    levels: &mut [i32],
-    ancestors: &mut [u16],
+    parts: &mut PartsMut<'_>,
     tally: &mut [u16],
     scratch: &mut [u16],
     run: Run,
-    shape: u16,
+    shape: Shape,
     turn: u16,
 ) -> Run {
-    let call = call_of(run.tree, shape, turn, run.seed);
-    let called = call_once(
-        fields,
-        numbers,
-        levels,
-        ancestors,
-        tally,
-        scratch,
-        drawn(run),
-        call,
-    );
-    inspected(
-        fields, numbers, levels, ancestors, tally, scratch, called, turn,
-    )
+    let call = call_of(&run.tree, shape, turn, run.seed);
+    let found = make(parts, tally, scratch, run.state, call);
+    let called = run.drawn().after_call(parts.fields, call, found);
+    inspected(parts, tally, scratch, called, turn)
 }
 
 // More turns than nodes: the last growths are refused.
 const TURNS: u16 = 200;
 
 pub fn grow_all(
-    fields: &mut [u16],
-    numbers: &mut [u64],
-    levels: &mut [i32],
-    ancestors: &mut [u16],
+    parts: &mut PartsMut<'_>,
     tally: &mut [u16],
     scratch: &mut [u16],
     run: Run,
-    shape: u16,
+    shape: Shape,
 ) -> Run {
-    let mut r = run;
-    let mut turn: u16 = 0;
-    while turn < TURNS {
-        r = grow_once(
-            fields, numbers, levels, ancestors, tally, scratch, r, shape, turn,
-        );
-        turn += 1;
+    let mut grown = run;
+    for turn in 0..TURNS {
+        grown = grow_once(parts, tally, scratch, grown, shape, turn);
     }
-    r
+    grown
 }

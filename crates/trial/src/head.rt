@@ -8,8 +8,7 @@ use link::Joined;
 // Whether x is this row or lies below it, by stored parents.
 fn is_under(fields: &[u16], x: u16, row: u16) -> bool {
     let mut at = x;
-    let mut k: u16 = 0;
-    while k < CAPACITY {
+    for _ in 0..CAPACITY {
         if at == row {
             return true;
         }
@@ -17,7 +16,6 @@ fn is_under(fields: &[u16], x: u16, row: u16) -> bool {
             return false;
         }
         at = field(fields, at, PARENT);
-        k += 1;
     }
     false
 }

@@ -5,9 +5,6 @@ pub fn next(seed: u64) -> u64 {
 
 // A number below n; 0 where n is 0.
 pub fn below(seed: u64, n: u16) -> u16 {
-    if n == 0 {
-        return 0;
-    }
     let word = (seed / 4096 % 65536) as u16;
-    word % n
+    word.checked_rem(n).unwrap_or(0)
 }

@@ -1,15 +1,49 @@
 // The calls that a shape makes: of which kind, and with which nodes, labels and faces.
-use crate::naive::minus;
 use crate::random::below;
+use std::fmt;
 
-// The shapes: one tree, uniform, chain, star, recent parents, binary, caterpillar; then several trees, and trees that are linked.
-pub const SHAPES: u16 = 8;
+// One tree, uniform, chain, star, recent parents, binary, caterpillar; then several trees, and trees that are linked.
+#[derive(Clone, Copy, PartialEq, Eq)]
+pub enum Shape {
+    Uniform,
+    Chain,
+    Star,
+    Recent,
+    Binary,
+    Caterpillar,
+    Several,
+    Linked,
+}
 
-const SEVERAL: u16 = 6;
+impl Shape {
+    pub const ALL: [Shape; 8] = [
+        Shape::Uniform,
+        Shape::Chain,
+        Shape::Star,
+        Shape::Recent,
+        Shape::Binary,
+        Shape::Caterpillar,
+        Shape::Several,
+        Shape::Linked,
+    ];
+}
 
-const LINKED: u16 = 7;
+impl fmt::Display for Shape {
+    fn fmt<W: fmt::Write>(&self, f: &mut fmt::Formatter<W>) -> fmt::Result {
+        f.write_str(match self {
+            Shape::Uniform => "uniform",
+            Shape::Chain => "chain",
+            Shape::Star => "star",
+            Shape::Recent => "recent",
+            Shape::Binary => "binary",
+            Shape::Caterpillar => "caterpillar",
+            Shape::Several => "several trees",
+            Shape::Linked => "linked trees",
+        })
+    }
+}
 
-#[derive(Drop)]
+#[derive(Clone, Copy)]
 pub enum Kind {
     Leaf,
     // Over the root of node 0's tree, or the first node.
@@ -20,18 +54,19 @@ pub enum Kind {
 }
 
 // The parent of the next leaf; now and then a node that is not there.
-pub fn parent(shape: u16, count: u16, seed: u64, other: u64) -> u16 {
+pub fn parent(shape: Shape, count: u16, seed: u64, other: u64) -> u16 {
     if below(other, 20) == 0 {
         return count;
     }
+    let last = count.saturating_sub(1);
     match shape {
-        0 => below(seed, count),
-        1 => minus(count, 1),
-        2 => 0,
-        3 => minus(minus(count, 1), below(seed, 8)),
-        4 => minus(count, 1) / 2,
-        5 => minus(count, 1) / 2 * 2,
-        _ => below(other, count),
+        Shape::Uniform => below(seed, count),
+        Shape::Chain => last,
+        Shape::Star => 0,
+        Shape::Recent => last.saturating_sub(below(seed, 8)),
+        Shape::Binary => last / 2,
+        Shape::Caterpillar => last / 2 * 2,
+        Shape::Several | Shape::Linked => below(other, count),
     }
 }
 
@@ -62,15 +97,15 @@ pub fn face(turn: u16, seed: u64) -> u16 {
 }
 
 // Whether this turn of one tree makes a new root: the first, and then one in so many.
-fn is_root(shape: u16, turn: u16, seed: u64) -> bool {
+fn is_root(shape: Shape, turn: u16, seed: u64) -> bool {
     if turn == 1 {
         return true;
     }
     match shape {
-        0 => below(seed, 10) == 0,
-        1 => below(seed, 20) == 0,
-        2 => below(seed, 40) == 0,
-        4 => below(seed, 5) == 0,
+        Shape::Uniform => below(seed, 10) == 0,
+        Shape::Chain => below(seed, 20) == 0,
+        Shape::Star => below(seed, 40) == 0,
+        Shape::Binary => below(seed, 5) == 0,
         _ => false,
     }
 }
@@ -88,25 +123,20 @@ fn kind_of_several(turn: u16, seed: u64) -> Kind {
 }
 
 // The call of a turn.
-pub fn kind_of(shape: u16, turn: u16, seed: u64) -> Kind {
-    if SEVERAL <= shape {
-        return kind_of_several(turn, seed);
+pub fn kind_of(shape: Shape, turn: u16, seed: u64) -> Kind {
+    match shape {
+        Shape::Several | Shape::Linked => kind_of_several(turn, seed),
+        _ => if is_root(shape, turn, seed) {
+            Kind::Root
+        } else {
+            Kind::Leaf
+        },
     }
-    if is_root(shape, turn, seed) {
-        return Kind::Root;
-    }
-    Kind::Leaf
 }
 
 // Whether this turn links two trees.
-pub fn is_link(shape: u16, turn: u16, seed: u64) -> bool {
-    if shape != LINKED {
-        return false;
-    }
-    if turn < 2 {
-        return false;
-    }
-    below(seed, 5) == 0
+pub fn is_link(shape: Shape, turn: u16, seed: u64) -> bool {
+    shape == Shape::Linked && 2 <= turn && below(seed, 5) == 0
 }
 
 // The root that a call names: that of a node's tree, now and then the node itself.
@@ -114,17 +144,15 @@ pub fn named(root: u16, node: u16, seed: u64) -> u16 {
     if below(seed, 5) == 0 { node } else { root }
 }
 
-// Whether a new root names an opening.
-pub fn names_opening(seed: u64) -> bool {
-    below(seed, 3) != 0
-}
-
-// The opening of a new root: now and then no label.
-pub fn opening(seed: u64) -> u16 {
-    match below(seed, 8) {
+// The opening of a new root, where it names one: now and then no label.
+pub fn opening(seed: u64, other: u64) -> Option<u16> {
+    if below(seed, 3) == 0 {
+        return None;
+    }
+    Some(match below(other, 8) {
         0 => 0,
         1 => 10000,
         2 => 9999,
-        _ => one_or_two(seed),
-    }
+        _ => one_or_two(other),
+    })
 }

@@ -1,5 +1,6 @@
-// The plain list of 01 and 02 on arrays, for 128 nodes: parents, labels and faces, and the count; a root has no parent. It shares nothing with the engine.
+// The plain list of 01 and 02 on arrays, for 128 nodes: parents, labels and faces, and the count; a root has no parent. It shares no function with the engine.
 use crate::naive::{members, of, root_of};
+use table::refusal::Refusal;
 
 pub const NONE: u16 = 65535;
 
@@ -17,181 +18,162 @@ pub struct Tree {
     pub count: u16,
 }
 
-pub fn empty() -> Tree {
-    Tree {
-        parents: [NONE; 128],
-        labels: [0; 128],
-        faces: [0; 128],
-        count: 0,
-    }
-}
-
-fn with_parent(t: Tree, x: u16, parent: u16) -> Tree {
-    let i = x as usize;
-    let mut next = t;
+// A column in which v stands for x; past its end it stays.
+fn set(mut column: [u16; 128], x: u16, v: u16) -> [u16; 128] {
+    let i = usize::from(x);
     if i < 128 {
-        next.parents[i] = parent;
+        column[i] = v;
     }
-    next
-}
-
-fn with_label(t: Tree, x: u16, label: u16) -> Tree {
-    let i = x as usize;
-    let mut next = t;
-    if i < 128 {
-        next.labels[i] = label;
-    }
-    next
-}
-
-fn with_face(t: Tree, x: u16, face: u16) -> Tree {
-    let i = x as usize;
-    let mut next = t;
-    if i < 128 {
-        next.faces[i] = face;
-    }
-    next
-}
-
-// A label, and with it a face.
-fn with_marks(t: Tree, x: u16, label: u16, face: u16) -> Tree {
-    with_face(with_label(t, x, label), x, face)
-}
-
-fn with_count(t: Tree) -> Tree {
-    let mut next = t;
-    if t.count < CAPACITY {
-        next.count = t.count + 1;
-    }
-    next
+    column
 }
 
 fn is_label(label: u16) -> bool {
-    if label < 1 {
-        return false;
-    }
-    label <= 9999
-}
-
-// The refusal of a leaf, or 0.
-pub fn leaf_refusal(t: Tree, parent: u16, label: u16, face: u16) -> u16 {
-    if t.count <= parent {
-        return 1;
-    }
-    if !is_label(label) {
-        return 5;
-    }
-    if BACK < face {
-        return 13;
-    }
-    full_refusal(t)
-}
-
-// The refusal of a node that names no other, or 0.
-pub fn full_refusal(t: Tree) -> u16 {
-    if t.count == CAPACITY {
-        return 2;
-    }
-    0
-}
-
-fn parent_of(t: Tree, x: u16) -> u16 {
-    let parents = t.parents;
-    of(&parents, x)
-}
-
-// The root of a node's tree.
-pub fn root_in(t: Tree, x: u16) -> u16 {
-    let parents = t.parents;
-    root_of(&parents, x)
+    1 <= label && label <= 9999
 }
 
 // An opening is looked at where it is named.
-fn is_opening(named: bool, opening: u16) -> bool {
-    !named || is_label(opening)
+fn is_opening(opening: Option<u16>) -> bool {
+    opening.map_or(true, is_label)
 }
 
-// The refusal of 01's new root, or 0.
-pub fn root_refusal(t: Tree, named: bool, opening: u16) -> u16 {
-    if !is_opening(named, opening) {
-        return 5;
+impl Tree {
+    pub fn new() -> Self {
+        Self {
+            parents: [NONE; 128],
+            labels: [0; 128],
+            faces: [0; 128],
+            count: 0,
+        }
     }
-    full_refusal(t)
-}
 
-// The refusal of a new root over x, or 0.
-pub fn over_refusal(t: Tree, x: u16, named: bool, opening: u16) -> u16 {
-    if t.count <= x {
-        return 1;
+    fn with_parent(self, x: u16, parent: u16) -> Self {
+        Self {
+            parents: set(self.parents, x, parent),
+            ..self
+        }
     }
-    if !is_opening(named, opening) {
-        return 5;
-    }
-    if parent_of(t, x) != NONE {
-        return 10;
-    }
-    full_refusal(t)
-}
 
-// The refusal of a link, or 0.
-pub fn link_refusal(t: Tree, x: u16, v: u16, label: u16) -> u16 {
-    if t.count <= x {
-        return 1;
+    // A label, and with it a face.
+    fn with_marks(self, x: u16, label: u16, face: u16) -> Self {
+        Self {
+            labels: set(self.labels, x, label),
+            faces: set(self.faces, x, face),
+            ..self
+        }
     }
-    if t.count <= v {
-        return 1;
-    }
-    if !is_label(label) {
-        return 5;
-    }
-    if parent_of(t, x) != NONE {
-        return 10;
-    }
-    if root_in(t, v) == x {
-        return 11;
-    }
-    0
-}
 
-// A first node that is not refused.
-pub fn with_first(t: Tree) -> Tree {
-    with_count(t)
-}
-
-// A leaf that is not refused.
-pub fn with_leaf(t: Tree, parent: u16, label: u16, face: u16) -> Tree {
-    let node = t.count;
-    let a = with_parent(t, node, parent);
-    let b = with_marks(a, node, label, face);
-    with_count(b)
-}
-
-// A new root over x that is not refused: the parent of x, which takes the opening, where one is named, and faces front.
-pub fn with_over(t: Tree, x: u16, named: bool, opening: u16) -> Tree {
-    let node = t.count;
-    let a = with_count(with_parent(t, x, node));
-    if named {
-        return with_marks(a, x, opening, FRONT);
+    // One node more.
+    fn counted(self) -> Self {
+        Self {
+            count: self.count.saturating_add(1).min(CAPACITY),
+            ..self
+        }
     }
-    a
-}
 
-// 01's new root, not refused: over that of node 0, or the first node.
-pub fn with_root(t: Tree, named: bool, opening: u16) -> Tree {
-    if t.count == 0 {
-        return with_first(t);
+    // The root of a node's tree.
+    pub fn root_of(&self, x: u16) -> u16 {
+        root_of(&self.parents, x)
     }
-    with_over(t, root_in(t, 0), named, opening)
-}
 
-// How many nodes the tree of a root has.
-pub fn members_in(t: Tree, root: u16) -> u64 {
-    let parents = t.parents;
-    members(&parents, t.count, root)
-}
+    // How many nodes the tree of a root has.
+    pub fn members(&self, root: u16) -> usize {
+        members(&self.parents, self.count, root)
+    }
 
-// A link that is not refused: x faces front.
-pub fn with_link(t: Tree, x: u16, v: u16, label: u16) -> Tree {
-    let a = with_parent(t, x, v);
-    with_marks(a, x, label, FRONT)
+    // Why a node that names no other is refused.
+    pub fn first_refusal(&self) -> Option<Refusal> {
+        if self.count == CAPACITY {
+            Some(Refusal::Full)
+        } else {
+            None
+        }
+    }
+
+    // Why a leaf is refused.
+    pub fn leaf_refusal(&self, parent: u16, label: u16, face: u16) -> Option<Refusal> {
+        if self.count <= parent {
+            return Some(Refusal::UnknownNode);
+        }
+        if !is_label(label) {
+            return Some(Refusal::BadLabel);
+        }
+        if BACK < face {
+            return Some(Refusal::BadFace);
+        }
+        self.first_refusal()
+    }
+
+    // Why 01's new root is refused.
+    pub fn root_refusal(&self, opening: Option<u16>) -> Option<Refusal> {
+        if !is_opening(opening) {
+            return Some(Refusal::BadLabel);
+        }
+        self.first_refusal()
+    }
+
+    // Why a new root over x is refused.
+    pub fn over_refusal(&self, x: u16, opening: Option<u16>) -> Option<Refusal> {
+        if self.count <= x {
+            return Some(Refusal::UnknownNode);
+        }
+        if !is_opening(opening) {
+            return Some(Refusal::BadLabel);
+        }
+        if of(&self.parents, x) != NONE {
+            return Some(Refusal::NotRoot);
+        }
+        self.first_refusal()
+    }
+
+    // Why a link is refused.
+    pub fn link_refusal(&self, x: u16, v: u16, label: u16) -> Option<Refusal> {
+        if self.count <= x || self.count <= v {
+            return Some(Refusal::UnknownNode);
+        }
+        if !is_label(label) {
+            return Some(Refusal::BadLabel);
+        }
+        if of(&self.parents, x) != NONE {
+            return Some(Refusal::NotRoot);
+        }
+        if self.root_of(v) == x {
+            return Some(Refusal::SameTree);
+        }
+        None
+    }
+
+    // A first node that is not refused.
+    pub fn with_first(self) -> Self {
+        self.counted()
+    }
+
+    // A leaf that is not refused.
+    pub fn with_leaf(self, parent: u16, label: u16, face: u16) -> Self {
+        let node = self.count;
+        self.with_parent(node, parent)
+            .with_marks(node, label, face)
+            .counted()
+    }
+
+    // A new root over x that is not refused: the parent of x, which takes the opening, where one is named, and faces front.
+    pub fn with_over(self, x: u16, opening: Option<u16>) -> Self {
+        let over = self.with_parent(x, self.count).counted();
+        match opening {
+            Some(label) => over.with_marks(x, label, FRONT),
+            None => over,
+        }
+    }
+
+    // 01's new root, not refused: over that of node 0, or the first node.
+    pub fn with_root(self, opening: Option<u16>) -> Self {
+        if self.count == 0 {
+            return self.with_first();
+        }
+        self.with_over(self.root_of(0), opening)
+    }
+
+    // A link that is not refused: x faces front.
+    pub fn with_link(self, x: u16, v: u16, label: u16) -> Self {
+        self.with_parent(x, v).with_marks(x, label, FRONT)
+    }
 }

@@ -1,15 +1,15 @@
 -- Lines as the code writes them are those of the session.
-use Rattle.std.specs.Prelude.{◌≡◌, refl, Bool, true, not, List, ℕ, ◌+◌, ◌-◌, ◌≤◌, eqb, length, take, replicate}
+use Rattle.std.specs.Prelude.{◌≡◌, refl, true, not, List, Option, Some, None, ℕ, ◌+◌, ◌-◌, ◌≤◌, eqb, length, take, replicate}
 use Rattle.std.proofs.Common.{sym, ◌∙◌, arith, length-append}
 use Rattle.std.proofs.Math.Path.{ap}
 use Rattle.std.proofs.Math.Seq.{take-append_seam}
+use Rattle.std.specs.Option.{is_some, unwrap_or}
 use Rattle.lines.specs.declared.Text.{Text}
 use Rattle.lines.specs.Text.{text_of}
 use Rattle.lines.specs.Line.{line_of}
 use Rattle.log_fields.specs.declared.Field.{Field}
 use Rattle.log_fields.specs.declared.Field.TheVariants.{Root}
 use Rattle.log_fields.specs.Outcome.{outcome_of}
-use Rattle.log_fields.specs.OutcomeLaws.{named_told}
 use Rattle.log_fields.specs.Field.{field_at}
 use Rattle.table.specs.Parts.{Parts}
 use Rattle.sequence.specs.Calls.{root}
@@ -57,6 +57,7 @@ module _ (log scratch : List ℕ) (s : Session) (f : Field) (read : outcome_of f
   served_from g {next} e same told served = told ∙ ap (reported s.ordinal s.total next) served ∙ same ∙ step_from g e
 
   -- the step of a root's field: whether it names an opening is told as 1 or 0
-  pub root_from : (named : Bool) (opening : ℕ) {next : ℕ} {given : Report} {turn : Step} → f ≡ Root named opening next
-      → turn ≡ reported s.ordinal s.total next given → given ≡ report s.fast (root named opening scratch) → turn ≡ step_of log scratch s
-  root_from named opening {next} e told served = served_from (Root named opening next) e (rw (named_told named) refl) told served
+  pub root_from : (opening : Option ℕ) {next : ℕ} {given : Report} {turn : Step} → f ≡ Root opening next
+      → turn ≡ reported s.ordinal s.total next given → given ≡ report s.fast (root (is_some opening) (unwrap_or opening 0) scratch) → turn ≡ step_of log scratch s
+  root_from None {next} e told served = served_from (Root None next) e refl told served
+  root_from (Some opening) {next} e told served = served_from (Root (Some opening) next) e refl told served

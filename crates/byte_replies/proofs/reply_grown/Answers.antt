@@ -5,8 +5,8 @@ use Rattle.byte_numbers.specs.BytesLaws.{sets_all}
 use Rattle.replies.specs.Reply.{reply}
 use Rattle.byte_replies.proofs.reply_grown.Goals as goal
 
-pub returns-in-Node : goal.returns-in-Node
-returns-in-Node c =
-    let g = c.in-Node.g in
-    rw (c.in-Node.is, c.put16-in-Node-2.ensures, c.put16-in-Node.ensures, c.put16.ensures)
+pub returns-in-Ok : goal.returns-in-Ok
+returns-in-Ok c =
+    let g = c.in-Ok.g in
+    rw (c.in-Ok.is, c.put16-in-Ok-2.ensures, c.put16-in-Ok.ensures, c.put16.ensures)
     (ap (λ (l : List ℕ). reply 0 l) (sets_all c.args.out.now (bytes 2 g.node ++ (bytes 2 g.rows ++ bytes 2 g.head)) c.requires))

@@ -5,7 +5,7 @@ use Rattle.desk_questions.specs.QuestionCallsLaws.{inspection_misfit, inspection
 use Rattle.desk_questions.proofs.nca_table_inspect.Goals as goal
 
 pub returns-then-out-ne-INSPECTED_OUT : goal.returns-then-out-ne-INSPECTED_OUT
-returns-then-out-ne-INSPECTED_OUT c = let a = c.args in inspection_misfit (parts_of a.fields.now a.numbers.now a.levels.now a.ancestors.now) (state_of a.count) a.tally.now a.out.now a.scratch.now c.number_of.ensures c.if-out-ne-INSPECTED_OUT.true
+returns-then-out-ne-INSPECTED_OUT c = let a = c.args in inspection_misfit (parts_of a.fields.now a.numbers.now a.levels.now a.ancestors.now) (state_of a.count) a.tally.now a.out.now a.scratch.now c.from.ensures c.if-out-ne-INSPECTED_OUT.true
 
 pub returns : goal.returns
 returns c = let a = c.args in inspection_served (parts_of a.fields.now a.numbers.now a.levels.now a.ancestors.now) (state_of a.count) a.tally.now a.out.now a.scratch.now _ _ _ c.if-out-ne-INSPECTED_OUT.false c.inspect-inspected.ensures c.reply_inspected.ensures

@@ -4,7 +4,7 @@ use Rattle.desk_table.specs.TableCallsLaws.{set_up_misfit, set_up_served}
 use Rattle.desk_table.proofs.nca_table_set_up.Goals as goal
 
 pub returns-then-out-ne-MADE_OUT : goal.returns-then-out-ne-MADE_OUT
-returns-then-out-ne-MADE_OUT c = let a = c.args in set_up_misfit (parts_of a.fields.now a.numbers.now a.levels.now a.ancestors.now) a.tally.now a.out.now c.number_of.ensures c.if-out-ne-MADE_OUT.true
+returns-then-out-ne-MADE_OUT c = let a = c.args in set_up_misfit (parts_of a.fields.now a.numbers.now a.levels.now a.ancestors.now) a.tally.now a.out.now c.from.ensures c.if-out-ne-MADE_OUT.true
 
 pub returns : goal.returns
 returns c = let a = c.args in

@@ -5,10 +5,10 @@ use Rattle.std.proofs.Common.{rules}
 use Rattle.desk_tree_growth.proofs.nca_add_root.Goals as goal
 
 pub returns-then-tree-ne-BYTES : goal.returns-then-tree-ne-BYTES
-returns-then-tree-ne-BYTES c = record { answer = root_tree_misfit c.args.tree.now c.args.out.now _ _ c.number_of.ensures c.if-tree-ne-BYTES.true; held = λ z. misfit_held c.number_of.ensures z }
+returns-then-tree-ne-BYTES c = record { answer = root_tree_misfit c.args.tree.now c.args.out.now _ _ c.from.ensures c.if-tree-ne-BYTES.true; held = λ z. misfit_held c.from.ensures z }
 
 pub returns-then-out-ne-GROWN_OUT : goal.returns-then-out-ne-GROWN_OUT
-returns-then-out-ne-GROWN_OUT c = record { answer = root_out_misfit c.args.tree.now c.args.out.now _ _ c.number_of-then-out-ne-GROWN_OUT.ensures c.if-tree-ne-BYTES.false c.if-out-ne-GROWN_OUT.true; held = λ z. misfit_held c.number_of-then-out-ne-GROWN_OUT.ensures z }
+returns-then-out-ne-GROWN_OUT c = record { answer = root_out_misfit c.args.tree.now c.args.out.now _ _ c.from-then-out-ne-GROWN_OUT.ensures c.if-tree-ne-BYTES.false c.if-out-ne-GROWN_OUT.true; held = λ z. misfit_held c.from-then-out-ne-GROWN_OUT.ensures z }
 
 pub keep_grown-requires : goal.keep_grown-requires
 keep_grown-requires c = record { tree_len = c.if-tree-ne-BYTES.false; fits = search rules; tally_len = search rules }
@@ -17,4 +17,4 @@ pub reply_grown-requires : goal.reply_grown-requires
 reply_grown-requires c = c.if-out-ne-GROWN_OUT.false
 
 pub returns : goal.returns
-returns c = let a = c.args in record { answer = root_kept a.tree.now a.out.now _ _ _ _ _ _ _ _ c.if-tree-ne-BYTES.false c.if-out-ne-GROWN_OUT.false c.read_parts.ensures c.read_tally.ensures c.read_state-state.ensures c.keep_grown.ensures.tree c.reply_grown.ensures _ _ c.add_root-grown.ensures; held = λ _. root_held a.tree.now _ _ _ _ _ _ _ c.read_parts.ensures c.read_tally.ensures c.read_state-state.ensures c.keep_grown.ensures.held _ _ c.add_root-grown.ensures }
+returns c = let a = c.args in record { answer = root_kept a.tree.now a.out.now _ _ _ _ _ _ _ _ c.if-tree-ne-BYTES.false c.if-out-ne-GROWN_OUT.false c.read_parts.ensures.held c.read_tally.ensures c.read_state-state.ensures c.keep_grown.ensures.tree c.reply_grown.ensures _ _ c.add_root-grown.ensures.grown; held = λ _. root_held a.tree.now _ _ _ _ _ _ _ c.read_parts.ensures.held c.read_tally.ensures c.read_state-state.ensures c.keep_grown.ensures.held _ _ c.add_root-grown.ensures.grown }

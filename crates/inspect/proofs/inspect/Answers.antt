@@ -7,11 +7,11 @@ pub returns-in_default : goal.returns-in_default
 returns-in_default c = misfit_parts c.capacity_with.ensures c.in_default.is
 
 pub returns-then-scratch-c : goal.returns-then-scratch-c
-returns-then-scratch-c c = misfit_scratch c.in-Capacity.ensures refl c.if-scratch-c.true
+returns-then-scratch-c c = misfit_scratch c.in-Some.ensures refl c.if-scratch-c.true
 
-pub passes-yes-requires : goal.passes-yes-requires
-passes-yes-requires c = let fit = c.in-Capacity.ensures in
+pub passes-requires : goal.passes-requires
+passes-requires c = let fit = c.in-Some.ensures in
     (told_capacity _ _ fit refl, (told_tally _ _ fit refl, search rules))
 
 pub returns : goal.returns
-returns c = answered c.in-Capacity.ensures refl c.if-scratch-c.false c.passes-yes.ensures
+returns c = answered c.in-Some.ensures refl c.if-scratch-c.false c.passes.ensures

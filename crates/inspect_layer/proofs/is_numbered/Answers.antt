@@ -14,9 +14,6 @@ pub returns-then-not-are_trees : goal.returns-then-not-are_trees
 returns-then-not-are_trees c = let a = c.args in
     stop_one a.fields.now a.numbers.now a.ancestors.now a.n (answer_no c.are_trees.ensures c.if-not-are_trees.true-raw)
 
-pub is_compressed-requires : goal.is_compressed-requires
-is_compressed-requires c = record { stored = record { small = omega (arith, c.requires.n_le_row_limit); trees = answer_yes c.are_trees.ensures c.if-not-are_trees.false-raw }; n_in_bounds = c.requires.n_in_bounds }
-
 pub returns-then-not-is_compressed : goal.returns-then-not-is_compressed
 returns-then-not-is_compressed c = let a = c.args in
     stop_two a.fields.now a.numbers.now a.ancestors.now a.n (answer_yes c.are_trees.ensures c.if-not-are_trees.false-raw) (answer_no c.is_compressed.ensures c.if-not-is_compressed.true-raw)

@@ -3,15 +3,7 @@ use Rattle.lines.specs.LineLaws.{end_written}
 use Rattle.lines.proofs.end_line.Goals as goal
 
 pub returns : goal.returns
-returns c = let both = end_written c.put_byte.result c.args.count c.args.total c.ranges.count.fits c.ranges.total.fits
-    (simp (
-      c.put_byte.ensures,
-      c.put_number-t-2.ensures,
-      c.put_byte-t-5.ensures,
-      c.put_number-t.ensures,
-      c.put_byte-t-4.ensures,
-      c.put_byte-t-3.ensures,
-      c.put_byte-t-2.ensures,
-      c.put_byte-t.ensures,
-      c.empty.ensures,
-    )) in record { text = both.0; fits = both.1 }
+returns c =
+    let both = end_written c.put_byte-2.new.self c.args.count c.args.total c.ranges.count.fits c.ranges.total.fits
+    (simp (c.put_byte-2.ensures, c.put_number-2.ensures, c.put_byte.ensures, c.put_number.ensures, c.put_bytes.ensures, c.empty-t.ensures)) in
+    record { text = both.0; fits = both.1 }

@@ -1,0 +1,5 @@
+-- `put_number` calls itself on the number's tenth, which is smaller.
+use Rattle.lines.proofs.Text.+put_number.Given as goal
+
+abbrev pub decreases-put_number : goal.decreases-put_number
+decreases-put_number l = l.n

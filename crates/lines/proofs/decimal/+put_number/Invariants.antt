@@ -1,5 +1,0 @@
--- `decimal::put_number` calls itself on the number's tenth, which is smaller.
-use Rattle.lines.proofs.decimal.+put_number.Given as goal
-
-abbrev pub decreases-put_number : goal.decreases-put_number
-decreases-put_number l = l.n

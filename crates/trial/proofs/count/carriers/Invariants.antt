@@ -1,9 +1,0 @@
--- `trial::count::carriers` is safe and ends.
-use Prim.Native.Nat.{◌-◌}
-use Rattle.trial.proofs.count.carriers.Given as goal
-
-abbrev pub invariant-loop-x : goal.invariant-loop-x
-invariant-loop-x l = Unit {0}
-
-abbrev pub decreases-loop-x : goal.decreases-loop-x
-decreases-loop-x l = l.count - l.x

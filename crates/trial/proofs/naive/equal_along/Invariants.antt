@@ -1,9 +1,0 @@
--- `trial::naive::equal_along` is safe and ends.
-use Prim.Native.Nat.{◌-◌}
-use Rattle.trial.proofs.naive.equal_along.Given as goal
-
-abbrev pub invariant-loop-k : goal.invariant-loop-k
-invariant-loop-k l = Unit {0}
-
-abbrev pub decreases-loop-k : goal.decreases-loop-k
-decreases-loop-k l = l.steps - l.k
