@@ -18,7 +18,9 @@ fn is_readable(rows: &Rows<'_>, leaf: Leaf, c: u16) -> bool
     is_row(rows.fields, rows.numbers, rows.count, c)
 }
 
-// Down into c, or up out of v where c is none; nowhere where c is not as it should be, a child of v.
+// Down into c, or up out of v where c is none; nowhere where c is not as it should be, a child of v. A step of the check walk is twice as slow where this is
+// left a call.
+#[inline(always)]
 fn enter(rows: &Rows<'_>, leaf: Leaf, v: u16, c: u16) -> Option<Place>
     ensures { result ≡ entered rows.now.fields.now rows.now.numbers.now rows.now.count leaf v c }
 {
