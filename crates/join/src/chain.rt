@@ -1,9 +1,9 @@
 // The chain of a new leaf: its upper rows, from the lowest up.
 ghost use Rattle.std.specs.Prelude.{◌≡◌};
 ghost use Rattle.laws.specs.Test.{pick};
-ghost use Rattle.layer.specs.Checked.{Holds};
 ghost use Rattle.join.specs.Chain.{top_from, outgrown_at, raised_at, raised};
 
+use crate::rows::Rows;
 use counts::one_more;
 use layer::layout::{NONE, SET_SIZE, SIZE, UPPER};
 use layer::row::field;
@@ -30,21 +30,20 @@ fn higher(fields: &[u16], u: u16, top: u16) -> u16
 
 // The highest row of the chain from `first` up that one more row makes outgrow its set size, the row NONE where none does; no answer where something read
 // is out of range.
-pub fn top_of(fields: &[u16], numbers: &[u64], count: u16, first: u16) -> Option<u16>
-    requires { Holds count fields.now numbers.now }
-    ensures { result ≡ top_from count fields.now numbers.now count first 65535 }
+pub fn top_of(rows: &Rows<'_>, first: u16) -> Option<u16>
+    ensures { result ≡ top_from rows.now.count rows.now.fields.now rows.now.numbers.now rows.now.count first 65535 }
 {
     let mut u = first;
     let mut top = NONE;
-    for _ in 0..count {
+    for _ in 0..rows.count {
         if u == NONE {
             return Some(top);
         }
-        if !is_row(fields, numbers, count, u) {
+        if !is_row(rows.fields, rows.numbers, rows.count, u) {
             return None;
         }
-        top = higher(fields, u, top);
-        u = field(fields, u, UPPER);
+        top = higher(rows.fields, u, top);
+        u = field(rows.fields, u, UPPER);
     }
     if u == NONE {
         return Some(top);

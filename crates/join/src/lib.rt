@@ -7,5 +7,6 @@ mod chain;
 mod check_walk;
 mod copied;
 pub mod lone;
+mod rows;
 pub mod seat;
 pub mod store;

@@ -7,6 +7,7 @@ use crate::attach::Leaf;
 use crate::chain::top_of;
 use crate::check_walk::check_walk;
 use crate::copied::copies_links;
+use crate::rows::Rows;
 use counts::{one_more, steps_of};
 use layer::layout::{DEPTH, LAST, NEXT_FREE, NONE, PARENT, PATH, SIZE, UPPER};
 use layer::row::{field, number};
@@ -24,19 +25,18 @@ pub struct Seat {
 }
 
 // The upper row of a leaf under p: p where it is an apex, else p's own; none where p has a parent that is no row in use.
-fn upper_for(fields: &[u16], numbers: &[u64], count: u16, p: u16) -> u16
-    requires { Holds count fields.now numbers.now }
-    ensures { result ≡ upper_for fields.now numbers.now count p }
+fn upper_for(rows: &Rows<'_>, p: u16) -> u16
+    ensures { result ≡ upper_for rows.now.fields.now rows.now.numbers.now rows.now.count p }
 {
-    let q = field(fields, p, PARENT);
+    let q = field(rows.fields, p, PARENT);
     if q == NONE {
         return p;
     }
-    if !is_row(fields, numbers, count, q) {
+    if !is_row(rows.fields, rows.numbers, rows.count, q) {
         return NONE;
     }
-    if field(fields, q, PATH) == p {
-        return field(fields, p, UPPER);
+    if field(rows.fields, q, PATH) == p {
+        return field(rows.fields, p, UPPER);
     }
     p
 }
@@ -86,44 +86,40 @@ fn is_seated(fields: &[u16], numbers: &[u64], leaf: u16, head: Head) -> bool
 }
 
 // The walk below a head that is not the leaf meets as many rows as its size says.
-fn is_whole(fields: &[u16], numbers: &[u64], count: u16, leaf: Leaf, head: Head) -> bool
-    requires { Holds count fields.now numbers.now }
-    ensures { result ≡ is_whole fields.now numbers.now count leaf head }
+fn is_whole(rows: &Rows<'_>, leaf: Leaf, head: Head) -> bool
+    ensures { result ≡ is_whole rows.now.fields.now rows.now.numbers.now rows.now.count leaf head }
 {
     if head.row == leaf.row {
         return true;
     }
-    check_walk(fields, numbers, count, leaf, head.row, steps_of(head.rows))
+    check_walk(rows, leaf, head.row, steps_of(head.rows))
 }
 
 // The seat of the leaf z under p whose chain has this top; none where something read is out of range.
 fn seat_at(
-    fields: &[u16],
-    numbers: &[u64],
+    rows: &Rows<'_>,
     ancestors: &[u16],
-    count: u16,
     z: u16,
     p: u16,
     upper: u16,
     top: u16,
     depth: u16,
 ) -> Option<Seat>
-    requires { Holds count fields.now numbers.now }
-    ensures { result ≡ seat_at fields.now numbers.now ancestors.now count z p upper top depth }
+    ensures { result ≡ seat_at rows.now.fields.now rows.now.numbers.now ancestors.now rows.now.count z p upper top depth }
 {
     let leaf = Leaf {
         row: z,
         parent: p,
-        prev: field(fields, p, LAST),
+        prev: field(rows.fields, p, LAST),
     };
-    let head = head_of(fields, top, z, upper);
-    if !is_seated(fields, numbers, z, head) {
+    let head = head_of(rows.fields, top, z, upper);
+    if !is_seated(rows.fields, rows.numbers, z, head) {
         return None;
     }
-    if !is_whole(fields, numbers, count, leaf, head) {
+    if !is_whole(rows, leaf, head) {
         return None;
     }
-    if !copies_links(ancestors, count, head.upper) {
+    if !copies_links(ancestors, rows.count, head.upper) {
         return None;
     }
     Some(Seat {
@@ -149,8 +145,13 @@ pub fn seat_of(
     if !is_row(fields, numbers, count, p) {
         return None;
     }
-    let upper = upper_for(fields, numbers, count, p);
-    let top = top_of(fields, numbers, count, upper)?;
+    let rows = Rows {
+        fields,
+        numbers,
+        count,
+    };
+    let upper = upper_for(&rows, p);
+    let top = top_of(&rows, upper)?;
     let depth = one_more(field(fields, p, DEPTH));
-    seat_at(fields, numbers, ancestors, count, z, p, upper, top, depth)
+    seat_at(&rows, ancestors, z, p, upper, top, depth)
 }

@@ -15,7 +15,7 @@ pub returns-then-not-is_row : goal.returns-then-not-is_row
 returns-then-not-is_row c = let l = c.loop in sym (l.invariant ∙ top_corrupt _ _ _ l.u l.top _ c.if-u.false (sym c.if-not-is_row.ensures))
 
 pub loop-preserved : goal.loop-preserved
-loop-preserved c = let l = c.loop in let n = c.args.count in
+loop-preserved c = let l = c.loop in let n = c.args.rows.now.count in
     l.invariant ∙ top_on _ _ _ l.u l.top (n - l.counter) (n - (l.counter + 1)) (omega arith) c.if-u.false (sym c.if-not-is_row.ensures) ∙ rw (c.field-u.ensures, c.higher-top.ensures)
 
 pub returns-then-u-2 : goal.returns-then-u-2

@@ -1,6 +1,6 @@
 -- `is_readable`, by cases.
 use Rattle.join.specs.CheckWalk.{is_readable}
-use borrow.Author.Tests.{eq-eqb, ne_eqb}
+use Rattle.std.proofs.Common.{eq-eqb, ne_eqb}
 use Rattle.join.proofs.check_walk.is_readable.Goals as goal
 
 pub returns-then-c-leaf : goal.returns-then-c-leaf

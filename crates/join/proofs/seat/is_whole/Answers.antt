@@ -1,6 +1,6 @@
 -- `is_whole`, by cases.
 use Rattle.join.specs.Seat.{is_whole}
-use borrow.Author.Tests.{eq-eqb, ne_eqb}
+use Rattle.std.proofs.Common.{eq-eqb, ne_eqb}
 use Rattle.join.proofs.seat.is_whole.Goals as goal
 
 pub returns-then-head-leaf : goal.returns-then-head-leaf

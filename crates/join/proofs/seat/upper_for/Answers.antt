@@ -1,7 +1,6 @@
 -- `upper_for`, by cases.
 use Rattle.join.specs.Seat.{upper_for, upper_under}
-use borrow.Author.Tests.{eq-eqb, ne_eqb}
-use mathlib.Core.Path.{sym}
+use Rattle.std.proofs.Common.{eq-eqb, ne_eqb, sym}
 use Rattle.join.proofs.seat.upper_for.Goals as goal
 
 pub returns-then-q : goal.returns-then-q
