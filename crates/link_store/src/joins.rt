@@ -87,11 +87,7 @@ fn join_row(parts: &mut PartsMut<'_>, n: u16, x: u16, door: u16, z: u16) -> u16
 fn add_rows(total: u32, rows: u16) -> u32
     ensures { result ≡ within32 (total + rows) }
 {
-    let more = rows as u32;
-    if 4294967295 - total < more {
-        return 4294967295;
-    }
-    total + more
+    total.saturating_add(u32::from(rows))
 }
 
 // On to the next depth, unless this was the last.
