@@ -1,6 +1,6 @@
 // A whole tree: its count, parts and tally from bytes, and back.
 ghost use Rattle.std.specs.Prelude.{◌≡◌, length};
-ghost use Rattle.table.specs.Lent.{SameLoans, parts_in as lent, parts_in_mut};
+ghost use Rattle.table.specs.Lent.{SameLengths, SameLoans, parts_in as lent, parts_in_mut};
 ghost use Rattle.table.specs.Capacity.{Fits};
 ghost use Rattle.tally.specs.Layout.{tally_length};
 ghost use Rattle.bytes_tree.specs.Tree.{tree_rows, tree_bytes, state_in, parts_in, tally_in, encoded, InBytes};
@@ -51,6 +51,7 @@ pub fn read_parts(b: &[u8], parts: &mut PartsMut<'_>)
     requires fits { Fits tree_rows (parts_in_mut parts.old) }
     ensures held { parts_in_mut parts.new ≡ parts_in b.now }
     ensures loans { SameLoans parts.old parts.new }
+    ensures lengths { SameLengths parts.old parts.new }
 {
     read(b, FIELDS, parts.fields);
     read(b, NUMBERS, parts.numbers);

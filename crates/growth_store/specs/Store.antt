@@ -1,8 +1,7 @@
 -- The stores of a row that joins as planned: those of the layer, then label, face, root record and level.
-use Rattle.std.specs.Prelude.{◌≡◌, List, ℕ, ℤ, length}
+use Rattle.std.specs.Prelude.{List, ℕ, ℤ}
 use Rattle.tree_laws.specs.Ancestor.{none}
 use Rattle.layer.specs.Write.{with_field}
-use Rattle.table.specs.declared.parts.PartsMut.{PartsMut}
 use Rattle.table.specs.Layout.{label_place, face_place, root_place}
 use Rattle.table.specs.Parts.{Parts, parts_of, with_level}
 use Rattle.renumber.specs.NumberWalk.{Walked, written}
@@ -39,8 +38,3 @@ with_marks l g w =
 -- in a table of n rows
 unfoldable pub plan_stored : Parts → ℕ → Plan → Stored
 plan_stored t n g = with_marks t.levels g (joined_at (written t.fields t.numbers t.ancestors) n g.seat)
-
--- the fields and the numbers keep their lengths
-pub record SameLengths (s t : PartsMut) : Type 0 where
-  pub fields : length t.fields.now ≡ length s.fields.now
-  pub numbers : length t.numbers.now ≡ length s.numbers.now

@@ -1,6 +1,6 @@
 // The stores of a first node.
 ghost use Rattle.std.specs.Prelude.{◌≡◌, pos};
-ghost use Rattle.table.specs.Lent.{SameLoans};
+ghost use Rattle.table.specs.Lent.{SameLengths, SameLoans};
 ghost use Rattle.table.specs.Parts.{with_level};
 ghost use Rattle.join.specs.Lone.{lone_numbers, lone_entries};
 ghost use Rattle.growth_store.specs.Start.{started_fields};
@@ -18,6 +18,7 @@ pub fn start(parts: &mut PartsMut<'_>, n: u16)
     ensures levels { parts.new.levels.now ≡ with_level parts.old.levels.now n (pos 0) }
     ensures ancestors { parts.new.ancestors.now ≡ lone_entries parts.old.ancestors.now n }
     ensures loans { SameLoans parts.old parts.new }
+    ensures lengths { SameLengths parts.old parts.new }
 {
     stand_alone(parts.fields, parts.numbers, parts.ancestors, n);
     put_field(parts.fields, n, LABEL, 0);

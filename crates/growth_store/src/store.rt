@@ -1,7 +1,7 @@
 // The stores of a row that joins as planned. Nothing is refused here.
 ghost use Rattle.std.specs.Prelude.{◌≡◌};
-ghost use Rattle.table.specs.Lent.{parts_in_mut, SameLoans};
-ghost use Rattle.growth_store.specs.Store.{SameLengths, given, marked, stored, plan_stored};
+ghost use Rattle.table.specs.Lent.{parts_in_mut, SameLengths, SameLoans};
+ghost use Rattle.growth_store.specs.Store.{given, marked, stored, plan_stored};
 
 use growth_plan::row::{Marks, Plan};
 use layer::layout::NONE;

@@ -2,7 +2,7 @@
 
 #![tactic(auto)]
 
-ghost use Rattle.table.specs.Lent.{parts_in_mut, SameLoans};
+ghost use Rattle.table.specs.Lent.{parts_in_mut, SameLengths, SameLoans};
 ghost use Rattle.link.specs.Link.{LinkCall};
 
 use link_plan::check_link;
@@ -31,6 +31,7 @@ pub fn link(
 ) -> Result<Joined, Refusal>
     ensures linked { LinkCall (parts_in_mut parts.old) (parts_in_mut parts.new) tally.old tally.new scratch.old scratch.new state x v door result }
     ensures loans { SameLoans parts.old parts.new }
+    ensures lengths { SameLengths parts.old parts.new }
 {
     let trees = check_link(&parts.read(), tally, scratch, state, x, v, door)?;
     let rows = store_link(parts, scratch, state.count, trees.linked, x, v, door);

@@ -1,9 +1,9 @@
 // The joins of a link: the rows that wait, each alone, come one after another under the rows that their root fields name.
 ghost use Rattle.std.specs.Prelude.{◌≡◌, ◌+◌, ◌*◌, pos, ◌+ℤ◌};
-ghost use Rattle.table.specs.Lent.{parts_in_mut, SameLoans};
+ghost use Rattle.table.specs.Lent.{parts_in_mut, SameLengths, SameLoans};
 ghost use Rattle.table.specs.Parts.{level_at};
 ghost use Rattle.layer.specs.Checked.{Holds};
-ghost use Rattle.growth_store.specs.Store.{SameLengths, stored};
+ghost use Rattle.growth_store.specs.Store.{stored};
 ghost use Rattle.growth_plan.specs.Level.{level_from};
 ghost use Rattle.link_store.specs.JoinRow.{number_for, planned_stored, join_row};
 ghost use Rattle.link_store.specs.Sort.{cell_at};
@@ -147,6 +147,7 @@ pub fn join_walk(
     requires { Holds n parts.old.fields.now parts.old.numbers.now }
     ensures stored { stored (parts_in_mut parts.new) result ≡ join_walk (2 * n) (cell_at heads.now) (cell_at links.now) n x door (walking (parts_in_mut parts.old) (joining (cell_at heads.now 0) 0 0)) }
     ensures loans { SameLoans parts.old parts.new }
+    ensures lengths { SameLengths parts.old parts.new }
 {
     let mut j = Joining {
         row: cell(heads, 0),

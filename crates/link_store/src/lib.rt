@@ -3,7 +3,7 @@
 #![tactic(auto)]
 
 ghost use Rattle.std.specs.Prelude.{◌≡◌, ◌≤◌, length};
-ghost use Rattle.table.specs.Lent.{parts_in_mut, SameLoans};
+ghost use Rattle.table.specs.Lent.{parts_in_mut, SameLengths, SameLoans};
 ghost use Rattle.table.specs.Capacity.{node_limit};
 ghost use Rattle.layer.specs.Checked.{Holds};
 ghost use Rattle.growth_store.specs.Store.{stored};
@@ -34,6 +34,7 @@ fn join_tree(
     requires heads_len { length heads.old ≡ length links.old }
     ensures stored { stored (parts_in_mut parts.new) result ≡ joined_tree (parts_in_mut parts.old) (length links.old) n tree x v door }
     ensures loans { SameLoans parts.old parts.new }
+    ensures lengths { SameLengths parts.old parts.new }
 {
     let lent = parts.read();
     sort_rows(lent.levels, lent.ancestors, heads, links, n, tree, x);
@@ -55,6 +56,7 @@ pub fn store_link(
     requires scratch_len_bound { length scratch.old ≤ node_limit }
     ensures stored { stored (parts_in_mut parts.new) result ≡ joined_tree (parts_in_mut parts.old) (length scratch.old) n tree x v door }
     ensures loans { SameLoans parts.old parts.new }
+    ensures lengths { SameLengths parts.old parts.new }
 {
     let cap = scratch.len();
     let mut own = work();

@@ -1,7 +1,7 @@
 // A call on the tables, and what it prints.
 ghost use Rattle.std.specs.Prelude.{◌≡◌, List, ℕ};
 ghost use Rattle.std.specs.Option.{is_some, unwrap_or};
-ghost use Rattle.table.specs.Lent.{SameLoans, parts_in, parts_in_mut};
+ghost use Rattle.table.specs.Lent.{SameLengths, SameLoans, parts_in, parts_in_mut};
 ghost use Rattle.table.specs.Parts.{level_at};
 ghost use Rattle.growth.specs.Outcome.{outcome_of as growth_of};
 ghost use Rattle.sequence.specs.Calls.{leaf, root, question, alike};
@@ -53,6 +53,7 @@ pub fn serve_leaf(
 ) -> Served
     ensures report { report_of (parts_in_mut parts.new) tally.new result ≡ report (fast_of (parts_in_mut parts.old) tally.old state) (leaf parent label face scratch.now) }
     ensures loans { SameLoans parts.old parts.new }
+    ensures lengths { SameLengths parts.old parts.new }
 {
     let g = add_leaf(parts, tally, scratch, state, parent, label, face);
     after_growth(b'L', parts.read().levels, state, g)
@@ -67,6 +68,7 @@ pub fn serve_root(
 ) -> Served
     ensures report { report_of (parts_in_mut parts.new) tally.new result ≡ report (fast_of (parts_in_mut parts.old) tally.old state) (root (is_some opening) (unwrap_or opening 0) scratch.now) }
     ensures loans { SameLoans parts.old parts.new }
+    ensures lengths { SameLengths parts.old parts.new }
 {
     let g = add_root(parts, tally, scratch, state, opening);
     after_growth(b'T', parts.read().levels, state, g)

@@ -4,7 +4,7 @@
 
 ghost use Rattle.std.specs.Prelude.{◌≡◌, length};
 ghost use Rattle.laws.specs.Tabulate.{tabulate};
-ghost use Rattle.table.specs.Lent.{SameLoans, parts_in_mut};
+ghost use Rattle.table.specs.Lent.{SameLengths, SameLoans, parts_in_mut};
 ghost use Rattle.set_up.specs.Outcome.{outcome_of};
 ghost use Rattle.set_up.specs.Blank.{blank_field, set_up, parts_after, tally_after};
 
@@ -42,6 +42,7 @@ pub fn set_up(parts: &mut PartsMut<'_>, tally: &mut [u16]) -> Result<State, Refu
     ensures after { parts_in_mut parts.new ≡ parts_after (parts_in_mut parts.old) tally.old }
     ensures counts { tally.new ≡ tally_after (parts_in_mut parts.old) tally.old }
     ensures loans { SameLoans parts.old parts.new }
+    ensures lengths { SameLengths parts.old parts.new }
 {
     let Some(_) = capacity_with(&parts.read(), tally) else {
         return Err(Refusal::Misfit);

@@ -1,5 +1,5 @@
--- The parts behind what a call is lent, and that a call keeps the loans: what it writes, it writes to the parts that it was lent.
-use Rattle.std.specs.Prelude.{◌≡◌}
+-- The parts behind what a call is lent; that a call keeps the loans: what it writes, it writes to the parts that it was lent; and that it keeps their lengths.
+use Rattle.std.specs.Prelude.{◌≡◌, length}
 use Rattle.table.specs.declared.parts.Parts.{Parts}
 use Rattle.table.specs.declared.parts.PartsMut.{PartsMut}
 use Rattle.table.specs.Parts.{Parts as Lists, parts_of}
@@ -15,3 +15,10 @@ pub record SameLoans (s t : PartsMut) : Type 0 where
   pub numbers : t.numbers.ghost_name ≡ s.numbers.ghost_name
   pub levels : t.levels.ghost_name ≡ s.levels.ghost_name
   pub ancestors : t.ancestors.ghost_name ≡ s.ancestors.ghost_name
+
+-- each part is as long as it was
+pub record SameLengths (s t : PartsMut) : Type 0 where
+  pub fields : length t.fields.now ≡ length s.fields.now
+  pub numbers : length t.numbers.now ≡ length s.numbers.now
+  pub levels : length t.levels.now ≡ length s.levels.now
+  pub ancestors : length t.ancestors.now ≡ length s.ancestors.now

@@ -4,7 +4,7 @@
 
 ghost use Rattle.std.specs.Prelude.{◌≡◌, List, ℕ, ◌+◌, ◌≤◌, not, eqb};
 ghost use Rattle.log_fields.specs.Fault.{number_of};
-ghost use Rattle.table.specs.Lent.{SameLoans, parts_in_mut};
+ghost use Rattle.table.specs.Lent.{SameLengths, SameLoans, parts_in_mut};
 ghost use Rattle.table.specs.Parts.{Parts};
 ghost use Rattle.report.specs.Report.{report_of};
 ghost use Rattle.turn.specs.Bounds.{Grows, Small};
@@ -118,6 +118,7 @@ pub fn take_turn(
 ) -> Turn
     requires { Small reading }
     ensures loans { SameLoans parts.old parts.new }
+    ensures lengths { SameLengths parts.old parts.new }
     ensures step { turn_of (parts_in_mut parts.new) tally.new result ≡ step_of log.now scratch.now (session_of (parts_in_mut parts.old) tally.old reading) }
     ensures grows { Grows reading result }
 {

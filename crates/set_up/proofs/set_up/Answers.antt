@@ -10,7 +10,7 @@ pub returns-in_default : goal.returns-in_default
 returns-in_default c =
     let a = c.args in
     let r = set_up_misfit (parts_in_mut a.parts.now) a.tally.now (sym (rw c.read.ensures at c.in_default.ensures)) in
-    record { outcome = r.0; after = r.1.0; counts = r.1.1; loans = search rules }
+    record { outcome = r.0; after = r.1.0; counts = r.1.1; loans = search rules; lengths = search rules }
 
 pub returns : goal.returns
 returns c =
@@ -19,4 +19,4 @@ returns c =
     let l : c.fill-2.new.self ≡ replicate (length a.parts.now.levels.now) (pos 0) = search rules in
     let e : c.fill-3.new.self ≡ replicate {A = ℕ} (length a.parts.now.ancestors.now) none = search rules in
     let r = set_up_fits (parts_in_mut a.parts.now) a.tally.now _ (sym (rw c.read.ensures at c.in-Some.ensures)) c.clear_fields.ensures n l e c.clear.ensures in
-    record { outcome = r.0; after = r.1.0; counts = r.1.1; loans = search rules }
+    record { outcome = r.0; after = r.1.0; counts = r.1.1; loans = search rules; lengths = search rules }

@@ -7,8 +7,8 @@ use Rattle.link_store.specs.WalkLaws.{walk_on, walk_end}
 use Rattle.link_store.proofs.joins.join_walk.Goals as goal
 
 pub loop-preserved : goal.loop-preserved
-loop-preserved c = let l = c.loop in let a = c.args in let s = l.invariant.1.0 in let e = c.join_turn-j.ensures in (
-  record { fields = e.lengths.fields ∙ l.invariant.0.fields; numbers = e.lengths.numbers ∙ l.invariant.0.numbers },
+loop-preserved c = let l = c.loop in let a = c.args in let s = l.invariant.1.0 in let e = c.join_turn-j.ensures in let h = l.invariant.0 in (
+  record { fields = e.lengths.fields ∙ h.fields; numbers = e.lengths.numbers ∙ h.numbers; levels = e.lengths.levels ∙ h.levels; ancestors = e.lengths.ancestors ∙ h.ancestors },
   (
     record { fields = e.loans.fields ∙ s.fields; numbers = e.loans.numbers ∙ s.numbers; levels = e.loans.levels ∙ s.levels; ancestors = e.loans.ancestors ∙ s.ancestors },
     l.invariant.1.1 ∙ walk_on (cell_at a.heads.now) (cell_at a.links.now) a.n a.x a.door (parts_in_mut l.parts) _ l.j _ (2 * a.n - l.counter) (2 * a.n - (l.counter + 1)) (omega arith) e.walked,

@@ -1,7 +1,6 @@
 -- `join_walk` turns as its definition does.
 use Rattle.std.specs.Prelude.{◌≡◌, ◌-◌, ◌*◌}
-use Rattle.table.specs.Lent.{parts_in_mut, SameLoans}
-use Rattle.growth_store.specs.Store.{SameLengths}
+use Rattle.table.specs.Lent.{parts_in_mut, SameLengths, SameLoans}
 use Rattle.link_store.specs.Sort.{cell_at}
 use Rattle.link_store.specs.Walk.{walking, joining, join_walk}
 use Rattle.link_store.proofs.joins.join_walk.Given as goal
