@@ -1,8 +1,8 @@
 // The calls of the trial: which one a turn makes, and what the plain list says to it.
 use crate::random::{below, next};
+use crate::reason::Reason;
 use crate::shape::{Kind, Shape, face, is_link, kind_of, label, named, opening, parent};
 use crate::tree::Tree;
-use table::refusal::Refusal;
 
 #[derive(Clone, Copy)]
 pub enum Call {
@@ -62,7 +62,7 @@ pub fn call_of(tree: &Tree, shape: Shape, turn: u16, seed: u64) -> Call {
 
 impl Call {
     // Why the plain list refuses the call.
-    pub fn refusal(self, tree: &Tree) -> Option<Refusal> {
+    pub fn refusal(self, tree: &Tree) -> Option<Reason> {
         match self {
             Call::First => tree.first_refusal(),
             Call::Root { opening } => tree.root_refusal(opening),

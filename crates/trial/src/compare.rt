@@ -1,6 +1,7 @@
 // Each answer of the engine against the naive one.
 use crate::checks::Checks;
 use crate::naive::{alike, branch, nca, of, root_of, steps};
+use crate::reason::Reason;
 use crate::tree::Tree;
 use alike::are_alike;
 use query::{Answer, characteristic_ancestors};
@@ -24,19 +25,27 @@ fn is_alike(tree: &Tree, x: u16, y: u16, found: bool) -> bool {
 }
 
 // Why the plain list refuses a question.
-fn refusal(tree: &Tree, x: u16, y: u16) -> Option<Refusal> {
+fn refusal(tree: &Tree, x: u16, y: u16) -> Option<Reason> {
     if tree.count <= x || tree.count <= y {
-        return Some(Refusal::UnknownNode);
+        return Some(Reason::UnknownNode);
     }
     if root_of(&tree.parents, x) != root_of(&tree.parents, y) {
-        return Some(Refusal::OtherTree);
+        return Some(Reason::OtherTree);
     }
     None
 }
 
+// Whether the engine refused for the plain list's reason.
+pub fn is_refused_for(reason: Option<Reason>, found: Refusal) -> bool {
+    match reason {
+        Some(expected) => u16::from(found) == expected.number(),
+        None => false,
+    }
+}
+
 // Whether what was found is the naive answer, by this test, or the plain list's refusal.
 fn agrees<T: Drop, F: FnOnce(T) -> bool>(
-    refusal: Option<Refusal>,
+    refusal: Option<Reason>,
     found: Result<T, Refusal>,
     is_right: F,
 ) -> bool
@@ -44,7 +53,7 @@ fn agrees<T: Drop, F: FnOnce(T) -> bool>(
 {
     match found {
         Ok(answer) => refusal.is_none() && is_right(answer),
-        Err(r) => refusal == Some(r),
+        Err(r) => is_refused_for(refusal, r),
     }
 }
 

@@ -1,8 +1,10 @@
 // The engine's table and the plain list side by side, call by call, with an inspection and a full count of labels after each.
 use crate::call::{Call, call_of, seed_after};
 use crate::checks::Checks;
+use crate::compare::is_refused_for;
 use crate::count::is_tallied;
 use crate::head::{heads_growth, heads_link};
+use crate::reason::Reason;
 use crate::shape::Shape;
 use crate::tree::Tree;
 use growth::{Growth, add_first, add_leaf, add_root, add_root_over};
@@ -63,7 +65,7 @@ impl Run {
     }
 
     // The run after a growth that was served; `refusal` is the plain list's.
-    fn after_growth(self, fields: &[u16], call: Call, refusal: Option<Refusal>, g: Growth) -> Self {
+    fn after_growth(self, fields: &[u16], call: Call, refusal: Option<Reason>, g: Growth) -> Self {
         let tree = call.after(self.tree);
         let state = g.state;
         let equal = refusal.is_none()
@@ -74,7 +76,7 @@ impl Run {
     }
 
     // The run after a link that was served.
-    fn after_link(self, fields: &[u16], call: Call, refusal: Option<Refusal>, l: Joined) -> Self {
+    fn after_link(self, fields: &[u16], call: Call, refusal: Option<Reason>, l: Joined) -> Self {
         let joined = self.tree.members(call.first_named()) as u64;
         let equal = refusal.is_none() && heads_link(fields, call.second_named(), &l);
         self.served(self.state, u64::from(l.rows), joined, equal, call)
@@ -83,7 +85,7 @@ impl Run {
     fn after_call(self, fields: &[u16], call: Call, found: Result<Found, Refusal>) -> Self {
         let refusal = call.refusal(&self.tree);
         match found {
-            Err(r) => self.noted(refusal == Some(r), call),
+            Err(r) => self.noted(is_refused_for(refusal, r), call),
             Ok(Found::Growth(g)) => self.after_growth(fields, call, refusal, g),
             Ok(Found::Joined(l)) => self.after_link(fields, call, refusal, l),
         }

@@ -25,6 +25,7 @@ mod head;
 mod limits;
 mod naive;
 mod random;
+mod reason;
 mod shape;
 mod tree;
 

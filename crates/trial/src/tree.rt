@@ -1,6 +1,6 @@
-// The plain list of 01 and 02 on arrays, for 128 nodes: parents, labels and faces, and the count; a root has no parent. It shares no function with the engine.
+// The plain list of 01 and 02 on arrays, for 128 nodes: parents, labels and faces, and the count; a root has no parent. It shares nothing with the engine.
 use crate::naive::{members, of, root_of};
-use table::refusal::Refusal;
+use crate::reason::Reason;
 
 pub const NONE: u16 = 65535;
 
@@ -81,63 +81,63 @@ impl Tree {
     }
 
     // Why a node that names no other is refused.
-    pub fn first_refusal(&self) -> Option<Refusal> {
+    pub fn first_refusal(&self) -> Option<Reason> {
         if self.count == CAPACITY {
-            Some(Refusal::Full)
+            Some(Reason::Full)
         } else {
             None
         }
     }
 
     // Why a leaf is refused.
-    pub fn leaf_refusal(&self, parent: u16, label: u16, face: u16) -> Option<Refusal> {
+    pub fn leaf_refusal(&self, parent: u16, label: u16, face: u16) -> Option<Reason> {
         if self.count <= parent {
-            return Some(Refusal::UnknownNode);
+            return Some(Reason::UnknownNode);
         }
         if !is_label(label) {
-            return Some(Refusal::BadLabel);
+            return Some(Reason::BadLabel);
         }
         if BACK < face {
-            return Some(Refusal::BadFace);
+            return Some(Reason::BadFace);
         }
         self.first_refusal()
     }
 
     // Why 01's new root is refused.
-    pub fn root_refusal(&self, opening: Option<u16>) -> Option<Refusal> {
+    pub fn root_refusal(&self, opening: Option<u16>) -> Option<Reason> {
         if !is_opening(opening) {
-            return Some(Refusal::BadLabel);
+            return Some(Reason::BadLabel);
         }
         self.first_refusal()
     }
 
     // Why a new root over x is refused.
-    pub fn over_refusal(&self, x: u16, opening: Option<u16>) -> Option<Refusal> {
+    pub fn over_refusal(&self, x: u16, opening: Option<u16>) -> Option<Reason> {
         if self.count <= x {
-            return Some(Refusal::UnknownNode);
+            return Some(Reason::UnknownNode);
         }
         if !is_opening(opening) {
-            return Some(Refusal::BadLabel);
+            return Some(Reason::BadLabel);
         }
         if of(&self.parents, x) != NONE {
-            return Some(Refusal::NotRoot);
+            return Some(Reason::NotRoot);
         }
         self.first_refusal()
     }
 
     // Why a link is refused.
-    pub fn link_refusal(&self, x: u16, v: u16, label: u16) -> Option<Refusal> {
+    pub fn link_refusal(&self, x: u16, v: u16, label: u16) -> Option<Reason> {
         if self.count <= x || self.count <= v {
-            return Some(Refusal::UnknownNode);
+            return Some(Reason::UnknownNode);
         }
         if !is_label(label) {
-            return Some(Refusal::BadLabel);
+            return Some(Reason::BadLabel);
         }
         if of(&self.parents, x) != NONE {
-            return Some(Refusal::NotRoot);
+            return Some(Reason::NotRoot);
         }
         if self.root_of(v) == x {
-            return Some(Refusal::SameTree);
+            return Some(Reason::SameTree);
         }
         None
     }
