@@ -2,10 +2,27 @@
 use Rattle.std.specs.Prelude.{◌≡◌, refl, List, [], ◌∷◌, ◌++◌, ℕ, zero, suc, ◌+◌, ◌-◌, ◌*◌, ◌^◌, ◌/◌, ◌%◌, ◌≤◌, ◌<◌, length, take, drop, get_or, set}
 use Rattle.std.proofs.Common.{ap, sym, ◌∙◌, append_assoc, append-nil, pow-suc, arith, drop_of_length-le, drop-drop}
 use Rattle.std.proofs.Math.Nat.{div-div-eq-div-mul}
-use Rattle.std.specs.Int.{bytes_low_first}
+use Rattle.std.specs.Int.{Width, byte_len, bytes_low_first, byte_worth, sum_through, from_le_bytes}
 use borrow.Rule.Slice.PartMut.{put_mid}
 use Rattle.std.proofs.lemmas.List.Edits.{sets, sets-eq}
-use Rattle.byte_numbers.specs.Bytes.{value, bytes}
+use Rattle.byte_numbers.specs.Bytes.{value, bytes, value_at}
+
+-- Reading
+
+-- a byte more, above the others
+value_more : (k : ℕ) (l : List ℕ) → value (take (suc k) l) ≡ value (take k l) + get_or l k 0 * 256 ^ k
+value_more zero [] = omega arith
+value_more zero (x ∷ l) = omega arith
+value_more (suc k) [] = omega arith
+value_more (suc k) (x ∷ l) = rw (value_more k l, pow-suc 256 k) (omega arith)
+
+-- std's number of the first bytes of a list, and of the bytes at a place
+low_worth : (k : ℕ) (l : List ℕ) → sum_through (λ j. byte_worth j (get_or l j 0)) k ≡ value (take (suc k) l)
+low_worth zero l = omega (arith, value_more zero l)
+low_worth (suc k) l = ap (λ (n : ℕ). n + get_or l (suc k) 0 * 256 ^ suc k) (low_worth k l) ∙ sym (value_more (suc k) l)
+
+pub value_read : (w : Width) (l : List ℕ) (i : ℕ) → from_le_bytes w (drop i l) ≡ value_at (suc (byte_len w - 1)) l i
+value_read w l i = low_worth (byte_len w - 1) (drop i l)
 
 -- Writing
 
